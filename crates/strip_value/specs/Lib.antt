@@ -1,0 +1,9 @@
+-- The definitions of strip's plain data.
+pub mod Text
+pub mod Name
+pub mod Order
+pub mod Kinds
+pub mod Print
+pub mod Table
+pub mod Bag
+pub mod Pieces
