@@ -1,11 +1,13 @@
 -- A table: a definition, and a list of rows in strictly rising key order.
-use Rattle.std.specs.Prelude.{◌≡◌, ℕ, ◌<◌, Bool, not, List, [], ◌∷◌, map, filter, find, get_or, length, All, pos, Option}
+use Rattle.std.specs.Prelude.{◌≡◌, ℕ, ◌≤◌, Bool, not, List, [], ◌∷◌, map, filter, find, get_or, length, nat_lt, if◌then◌else◌, pos, Option, Some, None}
+use Rattle.std.specs.List.{AllByRecursion}
 use Rattle.std.specs.declared.cmp.Ordering.{Ordering}
 use Rattle.std.specs.declared.cmp.Ordering.TheVariants.{Less, Equal, Greater}
 use Rattle.std.specs.Ordering.{is_eq}
 use Rattle.strip_value.specs.declared.values.Value.{Value}
 use Rattle.strip_value.specs.declared.values.Value.TheVariants.{Int}
 use Rattle.strip_value.specs.declared.tables.TableDef.{TableDef}
+use Rattle.strip_value.specs.Kinds.{FitsColumns}
 use Rattle.strip_value.specs.Order.{row_cmp}
 
 -- what contracts see of a table
@@ -32,7 +34,18 @@ IsBelow columns low high = row_cmp (key_of columns low) (key_of columns high) �
 -- the keys rise strictly
 abbrev pub Rises : List ℕ → List (List Value) → Type 0
 Rises columns [] = Unit {0}
-Rises columns (row ∷ rows) = All (IsBelow columns row) rows × Rises columns rows
+Rises columns (row ∷ rows) = AllByRecursion (IsBelow columns row) rows × Rises columns rows
+
+-- no more than the limit, where there is one
+abbrev pub IsWithin : Option ℕ → ℕ → Type 0
+IsWithin None count = Unit {0}
+IsWithin (Some limit) count = count ≤ limit
+
+-- these are rows of a table of this definition
+pub record IsTable (def : TableDef) (rows : List (List Value)) : Type 0 where
+  pub rises : Rises def.key rows
+  pub fits : AllByRecursion (FitsColumns def.columns) rows
+  pub within : IsWithin def.limit (length rows)
 
 -- the row of a key
 abbrev pub row_at : List ℕ → List (List Value) → List Value → Option (List Value)
@@ -42,11 +55,12 @@ row_at columns rows key = find (has_key columns key) rows
 abbrev pub without : List ℕ → List (List Value) → List Value → List (List Value)
 without columns rows key = filter (λ row. not (has_key columns key row)) rows
 
--- a row put before the first one that isn't below it
+-- a row before the first one, or the first one and what comes of the others
 abbrev pub put_between : Ordering → List Value → List Value → List (List Value) → List (List Value) → List (List Value)
 put_between Greater row first rows placed = first ∷ placed
 put_between _ row first rows placed = row ∷ first ∷ rows
 
+-- the rows with one more, before the first one that isn't below it by key
 abbrev pub placed : List ℕ → List Value → List (List Value) → List (List Value)
 placed columns row [] = row ∷ []
 placed columns row (first ∷ rows) =
@@ -55,3 +69,13 @@ placed columns row (first ∷ rows) =
 -- the rows but for the one of this row's key, and this row, in key order
 abbrev pub with_row : List ℕ → List (List Value) → List Value → List (List Value)
 with_row columns rows row = placed columns row (without columns rows (key_of columns row))
+
+-- the limit that one more row would pass; a row of a key that stands isn't one more
+abbrev pub passed_limit : Option (List Value) → Option ℕ → ℕ → Option ℕ
+passed_limit (Some old) limit count = None
+passed_limit None None count = None
+passed_limit None (Some limit) count = if nat_lt count limit then None else Some limit
+
+-- the limit for which a row can't be put
+abbrev pub full_at : Keyed → List Value → Option ℕ
+full_at table row = passed_limit (row_at table.def.key table.rows (key_of table.def.key row)) table.def.limit (length table.rows)
