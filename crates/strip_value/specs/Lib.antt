@@ -5,5 +5,6 @@ pub mod Order
 pub mod Kinds
 pub mod Print
 pub mod Table
+pub mod Places
 pub mod Bag
 pub mod Pieces
