@@ -1,5 +1,5 @@
 -- What a source and a sink in memory are, as contracts see them, and what a call of each answers.
-use Rattle.std.specs.Prelude.{◌≡◌, ◌==◌, ℕ, min, max, Bool, true, false, List, length, drop, Result, Ok, Err}
+use Rattle.std.specs.Prelude.{◌++◌, ◌&&◌, if◌then◌else◌, nat_lt, ◌≡◌, ◌==◌, ℕ, min, max, Bool, true, false, List, length, take, drop, Result, Ok, Err}
 use Rattle.std.specs.List.{list_any}
 use Rattle.strip_outside.specs.Faults.{raised}
 
@@ -39,3 +39,20 @@ MemoryRead old new room (Ok n) =
 MemoryRead old new room (Err fault) =
     (has_call old.failing (raised old.calls) ≡ true)
     × (new ≡ record old { faults = raised old.faults; calls = raised old.calls })
+
+-- how many bytes of a piece of this length the sink takes at its next write: none where that write is listed as still
+abbrev pub takes : SinkState → ℕ → ℕ
+takes sink len = if has_call sink.still (raised sink.calls) then 0 else min (most sink.cut) len
+
+-- the count of faults after a write that took n bytes of a piece of this length: to take none of some is a fault
+abbrev pub faults_after : ℕ → ℕ → ℕ → ℕ
+faults_after faults len n = if (n == 0) && nat_lt 0 len then raised faults else faults
+
+-- what a write to a sink in memory answers, and the sink after it; a fault may also come of want of memory
+abbrev pub MemoryWrite : {E : Type 0} → SinkState → SinkState → List ℕ → Result ℕ E → Type 0
+MemoryWrite old new piece (Ok n) =
+    (has_call old.failing (raised old.calls) ≡ false)
+    × (n ≡ takes old (length piece))
+    × (new ≡ record old { written = old.written ++ take n piece; faults = faults_after old.faults (length piece) n; calls = raised old.calls })
+MemoryWrite old new piece (Err fault) =
+    new ≡ record old { faults = raised old.faults; calls = raised old.calls }

@@ -1,3 +1,4 @@
+use crate::faults::count_up;
 use crate::{Fault, Sink};
 use std::alloc::Global;
 use std::marker::Model;
@@ -78,16 +79,25 @@ impl MemorySink {
 }
 
 impl Sink for MemorySink {
-    ghost use Rattle.std.specs.Prelude.{Some};
+    ghost use Rattle.std.specs.Prelude.{Some, ◌≤◌, length, IfOk};
+    ghost use Rattle.strip_outside.specs.Bytes.{Writes};
+    ghost use Rattle.strip_outside.specs.Faults.{CountsWrite};
+    ghost use Rattle.strip_outside.specs.Memory.{MemoryWrite};
 
     ghost written = { λ s. Some s.written };
 
     ghost faults = { λ s. s.faults };
 
-    fn write(&mut self, piece: &[u8]) -> Result<usize, Fault> {
-        self.calls = self.calls.saturating_add(1);
+    fn write(&mut self, piece: &[u8]) -> Result<usize, Fault>
+        ensures within_piece { IfOk result (λ n. n ≤ length piece.now) }
+        ensures never_falls { self.old.faults ≤ self.new.faults }
+        ensures counted { CountsWrite self.old.faults self.new.faults piece.now result }
+        ensures bytes { Writes (Some self.old.written) (Some self.new.written) piece.now result }
+        ensures exactly { MemoryWrite self.old self.new piece.now result }
+    {
+        count_up(&mut self.calls);
         if self.failing.contains(&self.calls) {
-            self.faults = self.faults.saturating_add(1);
+            count_up(&mut self.faults);
             return Err(Fault);
         }
         let limit = if self.still.contains(&self.calls) {
@@ -97,11 +107,11 @@ impl Sink for MemorySink {
         };
         let taken = limit.min(piece.len());
         if taken == 0 && !piece.is_empty() {
-            self.faults = self.faults.saturating_add(1);
+            count_up(&mut self.faults);
             return Ok(0);
         }
         if self.written.extend_from_slice(&piece[..taken]).is_err() {
-            self.faults = self.faults.saturating_add(1);
+            count_up(&mut self.faults);
             return Err(Fault);
         }
         Ok(taken)

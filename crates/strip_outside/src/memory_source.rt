@@ -1,3 +1,4 @@
+use crate::faults::count_up;
 use crate::{Fault, Source};
 use std::marker::Model;
 
@@ -87,9 +88,9 @@ impl Source for MemorySource {
         ensures bytes { Reads (Some self.old.left) (Some self.new.left) into.new result }
         ensures exactly { MemoryRead self.old self.new (length into.old) result }
     {
-        self.calls = self.calls.saturating_add(1);
+        count_up(&mut self.calls);
         if self.failing.contains(&self.calls) {
-            self.faults = self.faults.saturating_add(1);
+            count_up(&mut self.faults);
             return Err(Fault);
         }
         let given = copy_front(&self.bytes[self.at..], into, self.cut.max(1) as usize);
