@@ -40,7 +40,8 @@ impl HostFiles {
 }
 
 impl Files for HostFiles {
-    ghost use Rattle.std.specs.Prelude.{None};
+    ghost use Rattle.std.specs.Prelude.{◌≡◌, ◌≤◌, None};
+    ghost use Rattle.strip_outside.specs.Faults.{raised};
 
     type Feed = StdSource<File>;
 
@@ -52,7 +53,11 @@ impl Files for HostFiles {
 
     ghost back = { λ _. None };
 
-    fn open_feed(&mut self, _path: &str) -> Result<StdSource<File>, OpenError> {
+    fn open_feed(&mut self, _path: &str) -> Result<StdSource<File>, OpenError>
+        ensures always_fault { result ≡ Err OpenError.Fault }
+        ensures counted { self.new ≡ raised self.old }
+        ensures never_falls { self.old ≤ self.new }
+    {
         count_up(&mut self.faults);
         Err(OpenError::Fault)
     }

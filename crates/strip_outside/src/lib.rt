@@ -26,3 +26,6 @@ pub use memory_source::MemorySource;
 pub use sinks::{Sink, write_all};
 pub use sources::Source;
 pub use std_streams::{StdSink, StdSource};
+
+#[cfg(test)]
+mod tests;
