@@ -1,5 +1,5 @@
 -- Which values are of a kind, and which rows are of a table's columns.
-use Rattle.std.specs.Prelude.{ℕ, ◌^◌, ℤ, pos, neg_ℤ, ◌≤ℤ◌, ◌<ℤ◌, List, [], ◌∷◌}
+use Rattle.std.specs.Prelude.{◌^◌, pos, neg_ℤ, ◌≤ℤ◌, ◌<ℤ◌, List, [], ◌∷◌}
 use Rattle.strip_value.specs.declared.kinds.Kind.{Kind}
 use Rattle.strip_value.specs.declared.kinds.Kind.TheVariants as kind
 use Rattle.strip_value.specs.declared.values.Value.{Value}

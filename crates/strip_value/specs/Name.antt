@@ -1,5 +1,5 @@
 -- What a name is, and what `Name::of` answers.
-use Rattle.std.specs.Prelude.{◌≡◌, ℕ, ◌≤◌, Bool, not, ◌&&◌, ◌||◌, ◌==◌, nat_le, nat_lt, List, length, slice_index, IsTrue, ◌≢◌, true, Result, Ok, Err}
+use Rattle.std.specs.Prelude.{◌≡◌, ℕ, Bool, not, ◌&&◌, ◌||◌, ◌==◌, nat_le, nat_lt, List, length, slice_index, IsTrue, ◌≢◌, true, Result, Ok, Err}
 use Rattle.std.specs.List.{list_all}
 use Rattle.strip_value.specs.declared.errors.NameError.{NameError}
 use Rattle.strip_value.specs.declared.errors.NameError.TheVariants.{BadName, Memory}

@@ -1,5 +1,6 @@
 use crate::copies::Duplicate;
 use crate::ids::{Id, Ids};
+use crate::items::Items;
 use crate::rows::{Row, RowList};
 use std::alloc::{AllocError, Global};
 
@@ -12,6 +13,9 @@ pub enum Act {
     Show { table: Id },
 }
 
+/// Acts, in their order.
+pub type ActList = Items<Act>;
+
 /// The answer to an act.
 #[derive(Debug, Drop)]
 pub enum Reply {
@@ -20,6 +24,9 @@ pub enum Reply {
     Count(u64),
     Refused(ActError),
 }
+
+/// Replies, in the order of their acts.
+pub type ReplyList = Items<Reply>;
 
 /// Why an act was refused; it then changed nothing.
 #[derive(Debug, Drop)]

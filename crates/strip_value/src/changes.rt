@@ -1,7 +1,7 @@
 use crate::copies::Duplicate;
 use crate::ids::Id;
 use crate::items::Items;
-use crate::rows::Row;
+use crate::rows::{Row, RowList};
 use std::alloc::{AllocError, Global};
 
 /// What became of one row.
@@ -23,6 +23,16 @@ pub struct Change {
 /// The row changes of a transaction, in the order of its acts.
 pub type Changes = Items<Change>;
 
+/// The rows that a transaction added to one table, removed from it and replaced in it, each with
+/// the number of its change, from 1, as its last value.
+#[derive(Debug, Drop)]
+pub struct Moved {
+    pub inserted: RowList,
+    pub deleted: RowList,
+    pub old: RowList,
+    pub new: RowList,
+}
+
 impl Duplicate for Shift {
     fn copy(&self, alloc: Global) -> Result<Shift, AllocError> {
         match self {
@@ -43,6 +53,21 @@ impl Duplicate for Change {
         Ok(Change {
             table: self.table,
             shift,
+        })
+    }
+}
+
+impl Duplicate for Moved {
+    fn copy(&self, alloc: Global) -> Result<Moved, AllocError> {
+        let inserted = self.inserted.copy(alloc)?;
+        let deleted = self.deleted.copy(alloc)?;
+        let old = self.old.copy(alloc)?;
+        let new = self.new.copy(alloc)?;
+        Ok(Moved {
+            inserted,
+            deleted,
+            old,
+            new,
         })
     }
 }

@@ -20,6 +20,24 @@ impl Duplicate for u32 {
     }
 }
 
+impl Duplicate for u64 {
+    fn copy(&self, _alloc: Global) -> Result<u64, AllocError> {
+        Ok(*self)
+    }
+}
+
+impl Duplicate for i128 {
+    fn copy(&self, _alloc: Global) -> Result<i128, AllocError> {
+        Ok(*self)
+    }
+}
+
+impl Duplicate for bool {
+    fn copy(&self, _alloc: Global) -> Result<bool, AllocError> {
+        Ok(*self)
+    }
+}
+
 impl<T: Duplicate> Duplicate for Option<T> {
     fn copy(&self, alloc: Global) -> Result<Option<T>, AllocError> {
         match self {

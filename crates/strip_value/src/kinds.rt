@@ -2,6 +2,7 @@ ghost use Rattle.std.specs.Prelude.{◌↔◌, IsTrue};
 ghost use Rattle.strip_value.specs.Kinds.{Fits};
 
 use crate::copies::Duplicate;
+use crate::items::Items;
 use crate::values::Value;
 use std::alloc::{AllocError, Global};
 
@@ -15,6 +16,12 @@ pub enum Kind {
     /// UTF-8 of at most 255 bytes.
     Text,
 }
+
+/// The kinds of a table's columns, in their order.
+pub type KindList = Items<Kind>;
+
+/// For each entry of a query the kinds of its columns.
+pub type Kinds = Items<KindList>;
 
 impl Duplicate for Kind {
     fn copy(&self, _alloc: Global) -> Result<Kind, AllocError> {
