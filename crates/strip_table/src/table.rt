@@ -21,7 +21,11 @@ pub struct Table {
 impl Model for Table {
     ghost use Rattle.strip_value.specs.Table.{Keyed, IsTable};
 
+    ghost use Rattle.strip_value.specs.Codes.{keyed_code};
+
     ghost Value = { Keyed };
+
+    ghost coded = { keyed_code };
 
     ghost view = { λ t. record { def = t.def; rows = t.rows.items } };
 

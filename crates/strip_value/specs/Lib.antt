@@ -6,5 +6,6 @@ pub mod Kinds
 pub mod Print
 pub mod Table
 pub mod Places
+pub mod Codes
 pub mod Bag
 pub mod Pieces
