@@ -1,0 +1,76 @@
+-- Small histories on which the definitions compute.
+use Rattle.std.specs.Prelude.{◌≡◌, List, [], ◌∷◌, ◌++◌, Some, None, codes, pos, false, refl}
+use Rattle.std.specs.Fmt.{digits}
+use Rattle.strip_value.specs.declared.acts.Act.TheVariants.{Put, Show}
+use Rattle.strip_value.specs.declared.acts.ActError.TheVariants.{Full}
+use Rattle.strip_value.specs.declared.acts.Reply.TheVariants.{Rows, Count, Refused}
+use Rattle.strip_value.specs.declared.kinds.Kind.TheVariants as kind
+use Rattle.strip_value.specs.declared.tables.TableDef.{TableDef}
+use Rattle.strip_value.specs.declared.values.Value.{Value}
+use Rattle.strip_value.specs.declared.values.Value.TheVariants.{Int}
+use Rattle.strip_value.specs.Print.{tuple_text}
+use Rattle.strip_value.specs.Table.{Keyed}
+use Rattle.strip_meaning.specs.Effect.{effect}
+use Rattle.strip_model.specs.declared.entries.Entry.{Entry}
+use Rattle.strip_model.specs.declared.entries.Entry.TheVariants.{Begin, Did, Commit, Undo}
+use Rattle.strip_model.specs.History.{empty_tables, base, live, begins}
+use Rattle.strip_model.specs.Legal.{Follows, reply_of}
+use Rattle.strip_model.specs.Says.{says, to_begin, to_act, opened, replied}
+use Rattle.strip_model.specs.Texts.{line_of_reply}
+
+-- a table of numbers that takes one row
+abbrev narrow : TableDef
+narrow = record {
+  name = codes "t";
+  columns = record { name = codes "a"; kind = kind.Int } ∷ [];
+  key = 0 ∷ [];
+  limit = Some 1;
+  query = None;
+  kept = None;
+  declared = false;
+}
+
+abbrev start : List Keyed
+start = empty_tables (narrow ∷ [])
+
+abbrev one : List Value
+one = Int (pos 1) ∷ []
+
+abbrev two : List Value
+two = Int (pos 2) ∷ []
+
+-- a put, committed; then a put that is refused, undone
+abbrev committed : List Entry
+committed = Commit 0 1 0 ∷ Did 0 1 (Put 0 one) (Count 1) ∷ Begin 0 1 (0 ∷ []) [] ∷ []
+
+abbrev refused : List Entry
+refused = Undo 0 2 ∷ Did 0 2 (Put 0 two) (Refused (Full 0 1)) ∷ Begin 0 2 (0 ∷ []) [] ∷ committed
+
+-- the committed row stands, and the refused one doesn't
+pub base_rows : base start refused ≡ record { def = narrow; rows = one ∷ [] } ∷ []
+unfolding effect
+base_rows = refl
+
+pub none_live : live refused ≡ []
+none_live = refl
+
+pub two_begins : begins refused ≡ 2
+two_begins = refl
+
+-- the reply that the refused put must have
+pub full_reply : reply_of start (Begin 0 2 (0 ∷ []) [] ∷ committed) 2 (Put 0 two) ≡ Refused (Full 0 1)
+unfolding effect
+full_reply = refl
+
+-- what the engine says to the next begin, which names a table twice
+pub next_begin : says start refused (to_begin 0 (0 ∷ 0 ∷ []) (0 ∷ [])) ≡ record { answer = opened 3; entry = Some (Begin 0 3 (0 ∷ []) []) }
+next_begin = refl
+
+-- the texts
+pub full_text : line_of_reply (narrow ∷ []) (Refused (Full 0 1)) ≡ codes "refused Full t 1\n"
+unfolding line_of_reply digits
+full_text = refl
+
+pub rows_of_two : line_of_reply (narrow ∷ []) (Rows (one ∷ two ∷ [])) ≡ codes "rows 2\n(1)\n(2)\n"
+unfolding line_of_reply tuple_text digits
+rows_of_two = refl

@@ -1,0 +1,6 @@
+pub mod Kept
+pub mod History
+pub mod Legal
+pub mod Says
+pub mod Texts
+pub mod Examples

@@ -1,0 +1,51 @@
+-- The texts of replies. A name of a table is that of its definition.
+use Rattle.std.specs.Prelude.{ℕ, ℤ, pos, List, [], ◌∷◌, ◌++◌, length, codes, slice_get, Option, Some, None}
+use Rattle.std.specs.Fmt.{signed_decimal}
+use Rattle.strip_value.specs.declared.acts.ActError.{ActError}
+use Rattle.strip_value.specs.declared.acts.ActError.TheVariants.{NotHeld, ReadOnly, Derived, KindMismatch, OutOfRange, Duplicate, Full}
+use Rattle.strip_value.specs.declared.acts.Reply.{Reply}
+use Rattle.strip_value.specs.declared.acts.Reply.TheVariants.{Rows, Count, Refused}
+use Rattle.strip_value.specs.declared.tables.TableDef.{TableDef}
+use Rattle.strip_value.specs.declared.values.Value.{Value}
+use Rattle.strip_value.specs.Print.{tuple_text}
+
+-- a number in decimal
+abbrev pub number_field : ℤ → List ℕ
+number_field n = signed_decimal n
+
+-- a line and its end
+abbrev pub line : List ℕ → List ℕ
+line text = text ++ 10 ∷ []
+
+-- the name in a definition, if there is one
+abbrev pub name_of : Option TableDef → List ℕ
+name_of None = []
+name_of (Some def) = def.name
+
+abbrev pub table_name : List TableDef → ℕ → List ℕ
+table_name defs id = name_of (slice_get defs id)
+
+-- each row as a tuple on a line of its own
+abbrev pub row_lines : List (List Value) → List ℕ
+row_lines [] = []
+row_lines (row ∷ rows) = line (tuple_text row) ++ row_lines rows
+
+-- the number of rows, and the rows
+abbrev pub rows_text : List (List Value) → List ℕ
+rows_text rows = line (codes "rows " ++ number_field (pos (length rows))) ++ row_lines rows
+
+-- the cause of a refused act, its fields after its name, a blank before each
+abbrev pub cause_text : List TableDef → ActError → List ℕ
+cause_text defs (NotHeld table) = codes "NotHeld " ++ table_name defs table
+cause_text defs (ReadOnly table) = codes "ReadOnly " ++ table_name defs table
+cause_text defs (Derived table) = codes "Derived " ++ table_name defs table
+cause_text defs (KindMismatch column) = codes "KindMismatch " ++ number_field (pos column)
+cause_text defs (OutOfRange column value) = codes "OutOfRange " ++ number_field (pos column) ++ codes " " ++ number_field value
+cause_text defs (Duplicate key) = codes "Duplicate " ++ tuple_text key
+cause_text defs (Full table limit) = codes "Full " ++ table_name defs table ++ codes " " ++ number_field (pos limit)
+
+-- the text of a reply to an act
+unfoldable pub line_of_reply : List TableDef → Reply → List ℕ
+line_of_reply defs (Count n) = line (codes "count " ++ number_field (pos n))
+line_of_reply defs (Rows rows) = rows_text rows
+line_of_reply defs (Refused cause) = line (codes "refused " ++ cause_text defs cause)

@@ -1,0 +1,12 @@
+//! Histories: the entries that the engine keeps, what they mean, which histories are legal, what the engine
+//! answers, and the texts of replies.
+#![tactic(auto)]
+
+mod entries;
+mod history;
+mod texts;
+
+pub use entries::Entry;
+pub use history::History;
+pub use strip_value::{Act, ActError, Bytes, Duplicate, Holds, Id, Ids, Reply, Row, TableDef};
+pub use texts::{refusal_text, reply_text};
