@@ -1,6 +1,6 @@
 use Rattle.std.proofs.Common.{◌+◌, ◌∙◌, length, length-drop, take, ap, sym, subst, arith}
 use Rattle.std.specs.Io.KnownBytes.{Appends}
-use Rattle.strip_outside.proofs.ByteLemmas.{Appends-more, stopped_at, slice_from}
+use Rattle.strip_outside.proofs.PartLemmas.{Appends-more, stopped_at, slice_from}
 use Rattle.strip_outside.proofs.sinks.write_all.Goals as goal
 
 pub returns-in-Ok-eq0-clause-bytes : goal.returns-in-Ok-eq0-clause-bytes

@@ -1,5 +1,5 @@
 use Rattle.std.proofs.Common.{length, ◌-◌}
-use Rattle.strip_outside.proofs.ByteLemmas.{HasWritten}
+use Rattle.strip_outside.proofs.PartLemmas.{HasWritten}
 use Rattle.strip_outside.proofs.sinks.write_all.Given as goal
 
 abbrev pub invariant-loop-at : goal.invariant-loop-at

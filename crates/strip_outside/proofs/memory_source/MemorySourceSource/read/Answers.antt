@@ -1,6 +1,6 @@
 use Rattle.std.proofs.Common.{◌≡◌, ◌+◌, ◌∙◌, Some, length, take, drop, ap, subst, arith}
 use Rattle.strip_outside.specs.Bytes.{Gave}
-use Rattle.strip_outside.proofs.ByteLemmas.{Gave-front, slice_from}
+use Rattle.strip_outside.proofs.PartLemmas.{Gave-front, slice_from}
 use Rattle.strip_outside.proofs.memory_source.MemorySourceSource.read.Goals as goal
 
 pub returns-clause-bytes : goal.returns-clause-bytes
