@@ -12,7 +12,7 @@ use Rattle.strip_value.specs.declared.values.Value.{Value}
 use Rattle.strip_value.specs.Order.{row_cmp, row_cmp_total}
 use Rattle.strip_value.specs.declared.tables.TableDef.{TableDef}
 use Rattle.strip_value.specs.Kinds.{FitsColumns}
-use Rattle.strip_value.specs.Table.{key_of, IsBelow, Rises, row_at, without, with_row, IsTable, passed_limit}
+use Rattle.strip_value.specs.Table.{key_of, IsBelow, Rises, row_at, without, with_row, put_if, put_back, IsTable, passed_limit}
 use Rattle.strip_table.specs.declared.table.PutError.{PutError}
 use Rattle.strip_table.specs.declared.table.PutError.TheVariants.{Full, Memory}
 use Rattle.strip_table.specs.Keys.{compared_key}
@@ -189,3 +189,13 @@ pub put_in : (columns : List ℕ) (limit : Option ℕ) (rows : List (List Value)
 put_in columns limit rows row at count gap counted room =
     let there = inserts columns rows (key_of columns row) at gap in
     (ap (λ o. passed_limit o limit (length rows)) there.row ∙ ap (reached limit) (sym counted) ∙ sym room, sym there.row, sym (there.with row refl))
+
+-- a row put back over the one of its key, and one whose key isn't there
+pub back_over : (columns : List ℕ) (rows : List (List Value)) (row : List Value) (at : ℕ) → Rises columns rows → IsFoundAt columns rows (key_of columns row) at → set rows at row ≡ put_back columns rows row
+back_over columns rows row at rises found =
+    let there = overwrites columns rows (key_of columns row) at rises found in
+    sym (there.with row refl) ∙ sym (ap (λ o. put_if o rows (with_row columns rows row)) (there.row []))
+
+pub back_none : (columns : List ℕ) (rows : List (List Value)) (row : List Value) (at : ℕ) → IsGapAt columns rows (key_of columns row) at → rows ≡ put_back columns rows row
+back_none columns rows row at gap =
+    sym (ap (λ o. put_if o rows (with_row columns rows row)) (inserts columns rows (key_of columns row) at gap).row)

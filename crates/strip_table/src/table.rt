@@ -2,7 +2,7 @@ ghost use Rattle.std.specs.Prelude.{◌≡◌, [], length, IfOk};
 ghost use Rattle.std.specs.Option.{option_copied};
 ghost use Rattle.strip_table.specs.Puts.{Puts, PutsRow, Removes, reached as passed};
 ghost use Rattle.strip_value.specs.Kinds.{FitsColumns};
-ghost use Rattle.strip_value.specs.Table.{IsTable, Rises, row_at, without};
+ghost use Rattle.strip_value.specs.Table.{IsTable, Rises, row_at, without, put_back};
 
 use crate::places::{place_of_key, place_of_row};
 use crate::rows::Rows;
@@ -20,7 +20,6 @@ pub struct Table {
 
 impl Model for Table {
     ghost use Rattle.strip_value.specs.Table.{Keyed, IsTable};
-
     ghost use Rattle.strip_value.specs.Codes.{keyed_code};
 
     ghost Value = { Keyed };
@@ -84,9 +83,18 @@ impl Table {
     /// Puts the row in the place of the row of its key, which is answered, or as a new row.
     pub fn put(&mut self, row: Row) -> Result<Option<Row>, PutError>
         requires { FitsColumns self.old.def.columns row }
-        ensures { Puts self.old row self.new result }
+        ensures puts { Puts self.old row self.new result }
+        ensures table { IsTable self.old.def self.old.rows }
     {
         put_row(self.def.key.as_slice(), self.def.limit, &mut self.rows, row)
+    }
+
+    /// Puts the row in the place of the row of its key; where no row has the key, nothing changes.
+    pub fn put_back(&mut self, row: Row)
+        requires { FitsColumns self.old.def.columns row }
+        ensures { self.new ≡ record self.old { rows = put_back self.old.def.key self.old.rows row } }
+    {
+        replace_row(self.def.key.as_slice(), &mut self.rows, row);
     }
 
     /// Takes the row of a key out.
@@ -146,6 +154,16 @@ fn put_row(
             };
             Ok(None)
         }
+    }
+}
+
+fn replace_row(columns: &[u32], rows: &mut Vec<Row>, row: Row)
+    requires { Rises columns.now rows.old.items }
+    ensures { rows.new.items ≡ put_back columns.now rows.old.items row }
+{
+    match place_of_row(columns, rows.as_slice(), row.values()) {
+        Ok(at) => rows[at] = row,
+        Err(_gap) => {}
     }
 }
 

@@ -12,7 +12,7 @@ use Rattle.strip_value.specs.declared.tables.ColumnDef.{ColumnDef}
 use Rattle.strip_value.specs.declared.tables.TableDef.{TableDef}
 use Rattle.strip_value.specs.Kinds.{FitsColumns}
 use Rattle.strip_value.specs.Order.{row_cmp, row_cmp_total}
-use Rattle.strip_value.specs.Table.{key_of, has_key, IsBelow, Rises, row_at, without, placed, put_between, with_row, IsTable, IsWithin, passed_limit}
+use Rattle.strip_value.specs.Table.{key_of, has_key, IsBelow, Rises, row_at, without, placed, put_between, with_row, put_if, put_back, IsTable, IsWithin, passed_limit}
 use Rattle.strip_value.specs.Places.{IsFoundAt, IsGapAt}
 use Rattle.strip_value.proofs.Orders.{row_cmp_equal}
 use Rattle.strip_value.proofs.Lists.{all_append, all_left, all_right, all_weaker, all_filter, filter_all}
@@ -331,3 +331,56 @@ table_without def rows key table =
       fits = all_filter (FitsColumns def.columns) (λ row. not (has_key def.key key row)) rows table.fits;
       within = within_fewer def.limit (length (without def.key rows key)) (length rows) there.fewer table.within;
     }
+
+within_kept : (columns : List ℕ) (rows : List (List Value)) (row : List Value) (limit : Option ℕ) → Rises columns rows → IsWithin limit (length rows) → (o : Option (List Value)) → row_at columns rows (key_of columns row) ≡ o → IsWithin limit (length (put_if o rows (with_row columns rows row)))
+within_kept columns rows row limit rises w None e = w
+within_kept columns rows row limit rises w (Some old) e = (puts_there columns rows row rises).count limit w (ap (λ o. passed_limit o limit (length rows)) e)
+
+rises_kept : (columns : List ℕ) (rows : List (List Value)) (row : List Value) → Rises columns rows → (o : Option (List Value)) → Rises columns (put_if o rows (with_row columns rows row))
+rises_kept columns rows row rises None = rises
+rises_kept columns rows row rises (Some old) = (puts_there columns rows row rises).rises
+
+fits_kept : (columns : List ℕ) (kinds : List ColumnDef) (rows : List (List Value)) (row : List Value) → Rises columns rows → AllByRecursion (FitsColumns kinds) rows → FitsColumns kinds row → (o : Option (List Value)) → AllByRecursion (FitsColumns kinds) (put_if o rows (with_row columns rows row))
+fits_kept columns kinds rows row rises all fits None = all
+fits_kept columns kinds rows row rises all fits (Some old) = (puts_there columns rows row rises).fits kinds all fits
+
+-- a table stays one when a row takes the place of the row of its key
+pub table_put_back : (def : TableDef) (rows : List (List Value)) (row : List Value) → IsTable def rows → FitsColumns def.columns row → IsTable def (put_back def.key rows row)
+table_put_back def rows row table fits =
+    let at = row_at def.key rows (key_of def.key row) in
+    record {
+      rises = rises_kept def.key rows row table.rises at;
+      fits = fits_kept def.key def.columns rows row table.rises table.fits fits at;
+      within = within_kept def.key rows row def.limit table.rises table.within at refl;
+    }
+
+found_of : {A : Type 0} (P : A → Type 0) (test : A → Bool) (xs : List A) (x : A) (b : Bool) (y : A) → P y → (find test xs ≡ Some x → P x) → cond b (Some y) (find test xs) ≡ Some x → P x
+found_of P test xs x true y p rest e = let same : y ≡ x = cc in subst P same p
+found_of P test xs x false y p rest e = rest e
+
+-- what is found is one of the list
+pub find_all : {A : Type 0} (P : A → Type 0) (test : A → Bool) (xs : List A) (x : A) → AllByRecursion P xs → find test xs ≡ Some x → P x
+find_all P test [] x all e = cc
+find_all P test (y ∷ ys) x all e = found_of P test ys x (test y) y all.0 (find_all P test ys x all.1) e
+
+-- the row that was put is there
+pub row_at_put : (columns : List ℕ) (rows : List (List Value)) (row : List Value) → Rises columns rows → row_at columns (with_row columns rows row) (key_of columns row) ≡ Some row
+row_at_put columns rows row rises = by_split (split_of columns (key_of columns row) rows rises)
+  where
+    by_split : Split columns (key_of columns row) rows → row_at columns (with_row columns rows row) (key_of columns row) ≡ Some row
+    by_split (inl f) =
+        let risen = subst (Rises columns) f.1.split rises in
+        let below = below_found columns (key_of columns row) f.1.front f.1.row f.1.back f.1.has_key risen in
+        let new = ap (λ rs. with_row columns rs row) f.1.split ∙ with_row_found columns row f.1.front f.1.row f.1.back f.1.has_key risen in
+        ap (λ rs. row_at columns rs (key_of columns row)) new ∙ row_at_found columns (key_of columns row) f.1.front row f.1.back below refl
+    by_split (inr g) =
+        let new = ap (λ rs. with_row columns rs row) g.1.split ∙ with_row_gap columns row g.1.front g.1.back g.1.below g.1.above in
+        ap (λ rs. row_at columns rs (key_of columns row)) new ∙ row_at_found columns (key_of columns row) g.1.front row g.1.back g.1.below refl
+
+-- a put can be taken back: the row that it replaced comes back, or the new row goes
+pub taken_back : (columns : List ℕ) (rows : List (List Value)) (row old : List Value) → Rises columns rows → row_at columns rows (key_of columns row) ≡ Some old → put_back columns (with_row columns rows row) old ≡ rows
+taken_back columns rows row old rises e =
+    let there = puts_there columns rows row rises in
+    let same = there.key_of_old old e in
+    let stands = row_at_put columns rows row rises in
+    ap (λ o. put_if o (with_row columns rows row) (with_row columns (with_row columns rows row) old)) (ap (row_at columns (with_row columns rows row)) same ∙ stands) ∙ there.undone old e

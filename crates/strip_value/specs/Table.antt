@@ -70,6 +70,14 @@ placed columns row (first ∷ rows) =
 abbrev pub with_row : List ℕ → List (List Value) → List Value → List (List Value)
 with_row columns rows row = placed columns row (without columns rows (key_of columns row))
 
+-- the rows with this one in the place of the row of its key, if there is one
+abbrev pub put_if : Option (List Value) → List (List Value) → List (List Value) → List (List Value)
+put_if None rows changed = rows
+put_if (Some old) rows changed = changed
+
+abbrev pub put_back : List ℕ → List (List Value) → List Value → List (List Value)
+put_back columns rows row = put_if (row_at columns rows (key_of columns row)) rows (with_row columns rows row)
+
 -- the limit that one more row would pass; a row of a key that stands isn't one more
 abbrev pub passed_limit : Option (List Value) → Option ℕ → ℕ → Option ℕ
 passed_limit (Some old) limit count = None
