@@ -1,13 +1,16 @@
-// A library with one function.
+//! The one-thread core: tables, transactions and their history.
 #![tactic(auto)]
 
-ghost use Rattle.std.specs.Prelude.{◌≡◌};
-ghost use Rattle.strip_engine.specs.Echo.{echo_of};
+mod answers;
+mod causes;
+mod engine;
+mod holds;
+mod setup;
+mod steps;
+mod undo;
 
-// The `ensures` clause is the contract: what `echo` returns is `echo_of` of its argument, a definition
-// in `specs/Echo.antt`, which a caller's clause can cite too.
-pub fn echo(x: usize) -> usize
-    ensures { result ≡ echo_of x }
-{
-    x
-}
+pub use answers::{ActFault, BeginError, CommitError, Fired, Limits, NoSession};
+pub use engine::Engine;
+pub use setup::Catalog;
+pub use strip_model::{Entry, History};
+pub use strip_value::{Act, ActError, Id, Reply, Row, TableDef, Value};

@@ -66,7 +66,7 @@ impl Table {
 
     /// The rows by rising key.
     pub fn rows(&self) -> Rows<'_>
-        ensures all { result.left.now ≡ self.now.rows }
+        ensures all { result ≡ self.now.rows }
         ensures table { IsTable self.now.def self.now.rows }
     {
         Rows {

@@ -1,0 +1,21 @@
+-- What the steps of a begin make.
+use Rattle.std.specs.Prelude.{◌≡◌, ℕ, ◌+◌, ◌≤◌, List, [], ◌∷◌, ◌++◌, Result, Ok, Err}
+use Rattle.std.specs.declared.alloc.AllocError.{AllocError}
+use Rattle.strip_model.specs.declared.entries.Entry.{Entry}
+use Rattle.strip_model.specs.declared.entries.Entry.TheVariants.{Begin}
+use Rattle.strip_model.specs.Kept.{Kept}
+use Rattle.strip_engine.specs.declared.undo.Session.{Session}
+use Rattle.strip_engine.specs.Holding.{held_by}
+
+-- the next session
+pub record IsMade (caller begins count : ℕ) (write read : List ℕ) (session : Session) : Type 0 where
+  pub called : session.caller ≡ caller
+  pub next : session.number ≡ begins + 1
+  pub holding : session.holds ≡ held_by count write read
+  pub clean : session.log.items ≡ []
+
+-- its entry, with room for one more
+abbrev pub AddsBegin : List Entry → Session → Kept → Result Unit AllocError → Type 0
+AddsBegin old session new (Ok done) =
+    (new.entries ≡ old ++ Begin session.caller session.number session.holds.write session.holds.read ∷ []) × (1 ≤ new.room)
+AddsBegin old session new (Err none) = new.entries ≡ old

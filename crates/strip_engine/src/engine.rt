@@ -1,0 +1,240 @@
+ghost use Rattle.std.specs.Prelude.{◌≡◌, ◌≤◌, ◌^◌, ◌+◌, ◌<◌, [], length, IfOk};
+ghost use Rattle.strip_engine.specs.Calls.{IsNew, BeginsSession, Acts, Commits, Undoes};
+ghost use Rattle.strip_engine.specs.Made.{IsMade, AddsBegin};
+ghost use Rattle.strip_engine.specs.State.{past, start};
+ghost use Rattle.strip_model.specs.History.{empty_tables, live};
+ghost use Rattle.strip_model.specs.Legal.{Legal, Names};
+
+use crate::answers::{ActFault, BeginError, CommitError, Fired, Limits, NoSession};
+use crate::holds::holds_of;
+use crate::setup::Catalog;
+use crate::steps::perform;
+use crate::undo::{Session, restore_all};
+use std::alloc::{AllocError, Global};
+use std::marker::Model;
+use strip_model::{Entry, History};
+use strip_table::Table;
+use strip_value::{Act, Duplicate, Id, Reply, TableDef};
+
+/// The latest moment: a later one counts as this.
+const LAST_MOMENT: u64 = 1 << 63;
+
+/// The database: tables, the transaction in progress, and every entry so far.
+#[derive(Drop)]
+pub struct Engine {
+    catalog: Catalog,
+    limits: Limits,
+    tables: Vec<Table>,
+    history: History,
+    session: Option<Session>,
+    begins: u64,
+    latest: u64,
+    alloc: Global,
+}
+
+impl Model for Engine {
+    ghost use Rattle.strip_engine.specs.State.{State, state_code};
+
+    ghost Value = { State };
+
+    ghost coded = { state_code };
+
+    ghost use Rattle.strip_engine.specs.Keeps.{Keeps};
+
+    ghost view = { λ e. record {
+      defs = e.catalog;
+      bound_rows = e.limits.bound_rows;
+      history = e.history.entries;
+    } };
+
+    ghost invariant = { λ e. Keeps e.catalog e.tables.items e.history.entries e.history.room e.session e.begins e.latest };
+}
+
+impl Engine {
+    /// An engine with empty tables and an empty history.
+    pub fn new(
+        alloc: Global,
+        catalog: Catalog,
+        limits: Limits,
+    ) -> Result<Engine, (Catalog, AllocError)>
+        requires { limits.bound_rows ≤ 2 ^ 60 }
+        ensures { IsNew catalog limits.bound_rows result }
+    {
+        let Ok(tables) = empty(alloc, catalog.defs()) else {
+            return Err((catalog, AllocError));
+        };
+        Ok(Engine {
+            catalog,
+            limits,
+            tables,
+            history: History::new(alloc),
+            session: None,
+            begins: 0,
+            latest: 0,
+            alloc,
+        })
+    }
+
+    /// Begins a transaction of the caller that writes and reads these tables.
+    pub fn begin(&mut self, caller: u32, write: &[Id], read: &[Id]) -> Result<u64, BeginError>
+        requires { live (past self.old) ≡ [] }
+        ensures { BeginsSession self.old caller write.now read.now self.new result }
+    {
+        let count = table_count(&self.catalog);
+        let Ok(session) = new_session(self.alloc, caller, self.begins, count, write, read) else {
+            return Err(BeginError::Memory);
+        };
+        let Ok(()) = add_begin(self.alloc, &mut self.history, &session) else {
+            return Err(BeginError::Memory);
+        };
+        let number = session.number;
+        self.session = Some(session);
+        self.begins = number;
+        Ok(number)
+    }
+
+    /// Does an act in a transaction in progress. A refusal is a reply, and stands in the history.
+    pub fn act(&mut self, session: u64, act: &Act) -> Result<Reply, ActFault>
+        requires { Names (length self.old.defs) act.now }
+        ensures { Acts self.old session act.now self.new result }
+    {
+        match self.session.take() {
+            Some(mut live) if live.number == session => {
+                let done = perform(
+                    self.alloc,
+                    &mut self.tables,
+                    &mut live,
+                    &mut self.history,
+                    act,
+                );
+                self.session = Some(live);
+                match done {
+                    Ok(reply) => Ok(reply),
+                    Err(_) => Err(ActFault::Memory),
+                }
+            }
+            other => {
+                self.session = other;
+                Err(ActFault::NoSession { session })
+            }
+        }
+    }
+
+    /// Ends a transaction: its changes stand, at the moment or at the greatest so far, if that is later.
+    pub fn commit(&mut self, session: u64, moment: u64) -> Result<Fired, CommitError>
+        ensures { Commits self.old session moment self.new result }
+    {
+        match self.session.take() {
+            Some(live) if live.number == session => {
+                let late = moment.min(LAST_MOMENT).max(self.latest);
+                self.history.push(Entry::Commit {
+                    caller: live.caller,
+                    session,
+                    moment: late,
+                });
+                self.latest = late;
+                Ok(Fired {
+                    firings: 0,
+                    rows: 0,
+                })
+            }
+            other => {
+                self.session = other;
+                Err(CommitError::NoSession { session })
+            }
+        }
+    }
+
+    /// Ends a transaction: its changes are dropped. It takes no memory.
+    pub fn undo(&mut self, session: u64) -> Result<(), NoSession>
+        ensures { Undoes self.old session self.new result }
+    {
+        match self.session.take() {
+            Some(live) if live.number == session => {
+                self.history.push(Entry::Undo {
+                    caller: live.caller,
+                    session,
+                });
+                restore_all(&mut self.tables, live.log);
+                Ok(())
+            }
+            other => {
+                self.session = other;
+                Err(NoSession { session })
+            }
+        }
+    }
+
+    /// Every entry so far, oldest first.
+    pub fn history(&self) -> &History
+        ensures entries { result.now.entries ≡ self.now.history }
+        ensures legal { Legal (start self.now) (past self.now) }
+    {
+        &self.history
+    }
+
+    pub fn catalog(&self) -> &Catalog
+        ensures { result.now ≡ self.now.defs }
+    {
+        &self.catalog
+    }
+
+    /// The limits that the engine was made with.
+    pub fn limits(&self) -> Limits
+        ensures { result.bound_rows ≡ self.now.bound_rows }
+    {
+        self.limits
+    }
+}
+
+fn table_count(catalog: &Catalog) -> u32
+    ensures { result ≡ length catalog.now }
+{
+    catalog.defs().len() as u32
+}
+
+fn empty(alloc: Global, defs: &[TableDef]) -> Result<Vec<Table>, AllocError>
+    ensures { IfOk result (λ tables. tables.items ≡ empty_tables defs.now) }
+{
+    let mut tables = Vec::with_capacity(alloc, defs.len())?;
+    for def in defs {
+        tables.push(Table::new(alloc, def)?)?;
+    }
+    Ok(tables)
+}
+
+/// The next session, which holds what it asks for.
+fn new_session(
+    alloc: Global,
+    caller: u32,
+    begins: u64,
+    count: u32,
+    write: &[Id],
+    read: &[Id],
+) -> Result<Session, AllocError>
+    requires { begins + 1 < 2 ^ 64 }
+    ensures { IfOk result (IsMade caller begins count write.now read.now) }
+{
+    let holds = holds_of(alloc, count, write, read)?;
+    Ok(Session {
+        caller,
+        number: begins + 1,
+        holds,
+        log: Vec::new(alloc),
+    })
+}
+
+/// The entry of a begin, and room for the one that ends the transaction.
+fn add_begin(alloc: Global, history: &mut History, session: &Session) -> Result<(), AllocError>
+    ensures { AddsBegin history.old.entries session.now history.new result }
+{
+    let held = session.holds.copy(alloc)?;
+    history.reserve(2)?;
+    history.push(Entry::Begin {
+        caller: session.caller,
+        session: session.number,
+        write: held.write,
+        read: held.read,
+    });
+    Ok(())
+}
