@@ -36,8 +36,10 @@ impl History {
         }
     }
 
+    /// The number of entries. A history has fewer than 2^63.
     pub fn len(&self) -> u64
-        ensures { result ≡ length self.now.entries }
+        ensures value { result ≡ length self.now.entries }
+        ensures small { length self.now.entries < 2 ^ 63 }
     {
         self.entries.len() as u64
     }
