@@ -1,17 +1,17 @@
 -- The rule of the gate at the opening, and what is known at the close.
-use Rattle.std.proofs.Common.{◌≡◌, ◌≢◌, ℕ, zero, suc, ◌+◌, ◌-◌, ◌%◌, ◌^◌, ◌<◌, ◌≤◌, List, [], ◌∷◌, ◌++◌, length, get_or, sym, refl, ap, ◌∙◌, subst, arith, Option, Some, None}
+use Rattle.std.proofs.Common.{◌≡◌, ◌≢◌, ℕ, zero, suc, ◌^◌, ◌<◌, List, [], ◌∷◌, length, get_or, sym, refl, ap, ◌∙◌, subst, arith, Option, Some}
 use mathlib.Core.Logic.{dite}
-use mathlib.Core.Option.{none, some, some-injective, some-ne-none}
+use mathlib.Core.Option.{some, some-injective, some-ne-none}
 use native.Mathlib.Decide.{ℕ_discrete}
 use lib.ListN.{get_elem?}
 use Rattle.std.specs.Prelude.{All}
 use Rattle.std.proofs.lemmas.List.Elements.{All-nil, All-cons, All-weaker}
-use Rattle.atomic_table.specs.Table.{State, opening, Final, Seen}
+use Rattle.atomic_table.specs.Table.{opening, Final, Seen}
 use Rattle.strip_gate.specs.declared.view.View.{View}
-use Rattle.strip_gate.specs.History.{StartsWith, entries_of}
-use Rattle.strip_gate.specs.Rule.{total, same, in_spare, times_in, weight_of, holds_of, names, owns, IsListOf, IsInLine, IsKnown, Home, IsKept}
+use Rattle.strip_gate.specs.History.{entries_of}
+use Rattle.strip_gate.specs.Rule.{total, times_in, weight_of, holds_of, names, IsListOf, IsInLine, IsKnown, Home}
 use Rattle.strip_gate.specs.Steps.{opening_view}
-use Rattle.strip_gate.proofs.Sums.{one_value, sum_two, sum_zero, sum_only, zero_or, same_is}
+use Rattle.strip_gate.proofs.Sums.{one_value, sum_two, sum_zero, sum_only, same_is}
 use Rattle.strip_gate.proofs.Lists.{starts_self, entries_none, spare_le, spare_first}
 use Rattle.strip_gate.proofs.Keeps.{Rule}
 

@@ -1,15 +1,15 @@
 -- The rule of the gate, where an entry is appended to the history.
-use Rattle.std.proofs.Common.{◌≡◌, ◌≢◌, ℕ, zero, suc, ◌+◌, ◌%◌, ◌^◌, ◌<◌, ◌≤◌, List, [], ◌∷◌, ◌++◌, length, get_or, set, drop, sym, refl, ap, ◌∙◌, subst, arith, Option, Some, length-append}
+use Rattle.std.proofs.Common.{◌≡◌, ◌≢◌, ℕ, ◌+◌, ◌%◌, ◌^◌, ◌<◌, ◌≤◌, List, [], ◌∷◌, ◌++◌, length, get_or, set, drop, sym, refl, ap, ◌∙◌, subst, arith, Option, length-append}
 use mathlib.Core.Option.{none, some}
 use lib.ListN.{get_elem?}
 use Rattle.std.specs.Prelude.{All}
 use Rattle.std.proofs.lemmas.List.Elements.{All-weaker, All-push, All-cons, All-head, All-tail}
 use Rattle.atomic_table.specs.Table.{State, Me, step, keeps, Allows}
 use Rattle.strip_gate.specs.declared.view.View.{View}
-use Rattle.strip_gate.specs.History.{StartsWith, numbered, entries_of}
-use Rattle.strip_gate.specs.Rule.{total, same, in_spare, times_in, weight_of, waits_of, holds_of, names, owns, IsListOf, IsInLine, IsKnown, Home, IsKept}
+use Rattle.strip_gate.specs.History.{numbered, entries_of}
+use Rattle.strip_gate.specs.Rule.{total, same, in_spare, times_in, weight_of, waits_of, holds_of, names, owns, IsListOf, IsInLine, IsKnown}
 use Rattle.strip_gate.specs.Steps.{HasTurn, with_mine, log_of, appended, appends}
-use Rattle.strip_gate.proofs.Sums.{put_here, sum_set, sum_at, sum_two, zero_or, same_is}
+use Rattle.strip_gate.proofs.Sums.{put_here, sum_at, sum_two, same_is}
 use Rattle.strip_gate.proofs.Lists.{starts_self, starts_trans, starts_more, entries_other, entries_own, none_in, drop_begin}
 use Rattle.strip_gate.proofs.Keeps.{total_same, each_set, differ_set, Rule, away, away_again, nobody_else}
 

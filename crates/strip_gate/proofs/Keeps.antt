@@ -1,22 +1,21 @@
 -- The rule of the gate, at the steps that leave the history as it is.
-use Rattle.std.proofs.Common.{◌≡◌, ◌≢◌, ℕ, zero, suc, ◌+◌, ◌-◌, ◌%◌, ◌^◌, ◌<◌, ◌≤◌, ◌⊎◌, inl, inr, List, [], ◌∷◌, ◌++◌, length, get_or, set, sym, refl, ap, ◌∙◌, subst, ⊎_elim, arith, Option, Some, None, eqb}
+use Rattle.std.proofs.Common.{◌≡◌, ◌≢◌, ℕ, zero, suc, ◌+◌, ◌%◌, ◌^◌, ◌<◌, ◌≤◌, List, [], ◌∷◌, length, get_or, set, sym, refl, ap, ◌∙◌, subst, ⊎_elim, arith, Option, Some, eqb}
 use mathlib.Core.Logic.{dite}
 use mathlib.Core.Option as maybe
 use mathlib.Core.Option.{none, some, some-injective, some-ne-none}
-use native.Mathlib.Decide.{ℕ_discrete, dec_le}
+use native.Mathlib.Decide.{ℕ_discrete}
 use lib.ListN.{get_elem?}
 use lib.Seq.{set-get_or}
 use prog.Atomic.{either}
-use Rattle.std.specs.Prelude.{All}
 use Rattle.std.proofs.lemmas.List.Elements.{All-weaker}
 use Rattle.atomic_table.specs.Table.{State, Me, step, Act, keeps, takes, gives, stepped, rest, put_back, carried_after, Valid, Allows}
 use Rattle.atomic_table.proofs.Lists.{at_set, set_else, set_again, one_turn, exchanged}
 use Rattle.strip_gate.specs.declared.view.View.{View}
 use Rattle.strip_gate.specs.History.{StartsWith, entries_of}
-use Rattle.strip_gate.specs.Rule.{total, same, in_spare, times_in, weight_of, waits_of, holds_of, names, owns, IsListOf, IsInLine, IsKnown, Differ, Home, IsKept}
+use Rattle.strip_gate.specs.Rule.{total, in_spare, times_in, weight_of, waits_of, holds_of, names, owns, IsInLine, IsKnown, Differ, Home, IsKept}
 use Rattle.strip_gate.specs.Steps.{IsIdle, HasTurn, waiting, entered, rested, marked, Knows, draws, Takes, looks, passes, marks, settles}
-use Rattle.strip_gate.proofs.Sums.{put_here, one_value, sum_set, sum_at, sum_two, sum_zero, sum_le, zero_or, same_is}
-use Rattle.strip_gate.proofs.Lists.{starts_self, starts_trans, starts_both, entries_begin, spare_first}
+use Rattle.strip_gate.proofs.Sums.{put_here, one_value, sum_set, sum_at, sum_zero, sum_le, zero_or, same_is}
+use Rattle.strip_gate.proofs.Lists.{starts_self, starts_trans, entries_begin, spare_first}
 
 module _ {E F : Type 0} where
   -- a number that the one pass counts as before

@@ -1,13 +1,13 @@
 -- Entries of callers in a history, beginnings of a history, and lists by caller.
-use Rattle.std.proofs.Common.{◌≡◌, ◌≢◌, ℕ, zero, suc, ◌+◌, ◌-◌, ◌<◌, ◌≤◌, ◌⊎◌, inl, inr, List, [], ◌∷◌, ◌++◌, length, get_or, drop, sym, refl, ap, ◌∙◌, subst, ⊎_elim, arith, Bool, true, false, cond, eqb, ltb, eq-eqb, ne_eqb, append_assoc, append-nil, length-append}
+use Rattle.std.proofs.Common.{◌≡◌, ◌≢◌, ℕ, suc, ◌+◌, ◌-◌, ◌<◌, ◌≤◌, ◌⊎◌, List, [], ◌∷◌, ◌++◌, length, drop, sym, refl, ap, ◌∙◌, subst, ⊎_elim, arith, Bool, true, false, cond, eqb, ltb, eq-eqb, ne_eqb, append_assoc, append-nil, length-append}
 use mathlib.Core.Logic.{dite}
 use native.Mathlib.Decide.{ℕ_discrete, dec_le}
 use Rattle.std.proofs.lemmas.Bool.Decides.{nat_tests}
-use Rattle.std.proofs.lemmas.List.Elements.{All-nil, All-cons, All-head, All-tail, All-append}
+use Rattle.std.proofs.lemmas.List.Elements.{All-nil, All-cons}
 use Rattle.std.specs.Prelude.{All, Contains, Result, Ok, Err, IfOk}
-use Rattle.strip_gate.specs.History.{StartsWith, StandsAt, longer, shorter, numbered, entries_from, entries_of}
+use Rattle.strip_gate.specs.History.{StartsWith, StandsAt, longer, shorter, entries_from, entries_of}
 use Rattle.strip_gate.specs.Rule.{same, below, in_spare, times_in, IsListOf}
-use Rattle.strip_gate.proofs.Sums.{same_is, same_not, below_is, below_not, zero_or}
+use Rattle.strip_gate.proofs.Sums.{same_is, same_not, below_is, below_not}
 
 -- n numbers are the first a of them and the others
 pub spare_cut : (c from n a : ℕ) → a ≤ n → in_spare c from n ≡ in_spare c from a + in_spare c (from + a) (n - a)

@@ -1,5 +1,5 @@
 -- What contracts see of a pass, from what its seat knows.
-use Rattle.std.proofs.Common.{◌⊎◌, inl, inr, Some, None, false, ◌≡◌, ℕ, ◌+◌, ◌-◌, ◌<◌, ◌≤◌, List, [], ◌∷◌, ◌++◌, sym, refl, ap, ◌∙◌, subst, arith, Bool, Option}
+use Rattle.std.proofs.Common.{◌⊎◌, inl, inr, Some, None, false, ◌≡◌, ℕ, ◌<◌, ◌≤◌, List, [], ◌∷◌, ◌++◌, sym, refl, ap, ◌∙◌, subst, arith, Bool, Option}
 use mathlib.Core.Logic.{dite}
 use native.Mathlib.Decide.{ℕ_discrete}
 use Rattle.std.specs.Prelude.{All, Contains, is_some}
@@ -7,18 +7,14 @@ use Rattle.std.proofs.lemmas.List.Elements.{All-nil, All-cons, All-head, All-tai
 use Rattle.atomic_table.specs.Table.{Me}
 use Rattle.atomic_table.specs.Seated.{TableId}
 use Rattle.strip_gate.specs.declared.view.View.{View}
-use Rattle.strip_gate.specs.History.{entries_of, longer}
+use Rattle.strip_gate.specs.History.{entries_of}
 use Rattle.strip_gate.specs.Rule.{IsListOf, times_in}
-use Rattle.strip_gate.specs.Pass.{HasEntries, IsNamed}
-use Rattle.strip_gate.specs.Steps.{Knows, given, joined, caller_in, mine_in, ended_in, with_mine, pass_view, opening_view, IsPlaced, IsPass}
+use Rattle.strip_gate.specs.Pass.{PassView, HasEntries, IsNamed}
+use Rattle.strip_gate.specs.Steps.{Knows, given, joined, caller_in, mine_in, ended_in, with_mine, IsOwn, with_other, pass_view, opening_view, IsPlaced, IsPass}
 use Rattle.strip_gate.proofs.Sums.{same_not}
 use Rattle.strip_gate.proofs.Lists.{some_in}
 
 module _ {E : Type 0} where
-  -- the lists begin with the pass's own
-  abbrev pub IsOwn : ℕ → List (ℕ × List (ℕ × E)) → Type 0
-  IsOwn n hs = hs ≡ (n, mine_in hs) ∷ ended_in hs
-
   pub own_as : (n : ℕ) (hs gs : List (ℕ × List (ℕ × E))) → hs ≡ gs → IsOwn n gs → IsOwn n hs
   own_as n hs gs e own = subst (IsOwn n) (sym e) own
 
@@ -60,16 +56,16 @@ module _ {E F : Type 0} (caller : E → ℕ) where
   }
 
   -- what contracts see of two passes that became one
-  pub joined_view : (table : TableId) (v w : View E F) (turn : Bool) (n m : ℕ) → IsOwn n v.held → IsOwn m w.held
-      → pass_view table (joined v w) turn ≡ record (pass_view table v turn) {
-        weight = v.weight + w.weight;
-        seen = longer v.seen w.seen;
-        ended = ended_in v.held ++ (caller_in w.held, mine_in w.held) ∷ ended_in w.held;
-      }
-  joined_view table v w turn n m own_v own_w =
+  pub joined_view : (table other : TableId) (v w : View E F) (turn : Bool) (n m : ℕ) → IsOwn n v.held → IsOwn m w.held
+      → pass_view table (joined v w) turn ≡ with_other (pass_view table v turn) (pass_view other w turn)
+  joined_view table other v w turn n m own_v own_w =
       let p = lists_append n v.held w.held own_v in
       let e : ended_in (v.held ++ w.held) ≡ ended_in v.held ++ (caller_in w.held, mine_in w.held) ∷ ended_in w.held = p.2 ∙ ap (λ hs. ended_in v.held ++ hs) (own_whole m w.held own_w) in
       λ i. record (pass_view table (joined v w) turn) { caller = p.0 i; mine = p.1 i; ended = e i }
+
+module _ {E F : Type 0} where
+  pub joined_as : (now p o a b : PassView E F) → a ≡ p → b ≡ o → p.has_turn ≡ false → now ≡ with_other (record a { has_turn = false }) b → now ≡ with_other p o
+  joined_as now p o a b pa ob idle e = e ∙ (λ i. with_other (record (pa i) { has_turn = false }) (ob i)) ∙ (λ i. with_other (record p { has_turn = sym idle i }) o)
 
 module _ {S E F : Type 0} where
   pub idle_holds : (me : Me (Option S) (View E F)) (count : Option ℕ) → IsPlaced me count → is_some count ≡ false → me.0.holds ≡ 0

@@ -1,19 +1,18 @@
 -- The rule of the gate, where a pass is cut in two and where two passes become one.
-use Rattle.std.proofs.Common.{◌≡◌, ◌≢◌, ℕ, zero, suc, ◌+◌, ◌-◌, ◌<◌, ◌≤◌, ◌⊎◌, inl, inr, List, [], ◌∷◌, ◌++◌, length, get_or, set, sym, refl, ap, ◌∙◌, subst, ⊎_elim, arith, Option, Some, None}
+use Rattle.std.proofs.Common.{◌≡◌, ℕ, ◌+◌, ◌<◌, ◌≤◌, ◌⊎◌, inl, inr, List, [], ◌∷◌, ◌++◌, get_or, set, sym, refl, ap, ◌∙◌, subst, ⊎_elim, arith}
 use mathlib.Core.Logic.{dite}
-use mathlib.Core.Option.{none, some}
+use mathlib.Core.Option.{some}
 use native.Mathlib.Decide.{ℕ_discrete}
 use lib.ListN.{get_elem?}
-use Rattle.std.specs.Prelude.{All}
 use Rattle.std.proofs.lemmas.List.Elements.{All-weaker, All-nil, All-cons, All-append}
-use Rattle.atomic_table.specs.Table.{State, Splits, Joins}
-use Rattle.atomic_table.proofs.Lists.{at_snoc, at_longer, set_else, at_set}
+use Rattle.atomic_table.specs.Table.{Splits, Joins}
+use Rattle.atomic_table.proofs.Lists.{at_snoc, at_longer, set_else}
 use Rattle.strip_gate.specs.declared.view.View.{View}
-use Rattle.strip_gate.specs.History.{StartsWith, longer, entries_of}
-use Rattle.strip_gate.specs.Rule.{total, same, in_spare, times_in, weight_of, waits_of, holds_of, names, owns, IsListOf, IsInLine, IsKnown, Differ, Home, IsKept}
+use Rattle.strip_gate.specs.History.{entries_of}
+use Rattle.strip_gate.specs.Rule.{total, same, in_spare, weight_of, waits_of, holds_of, names, owns, IsListOf, IsInLine, IsKnown, Differ, Home}
 use Rattle.strip_gate.specs.Steps.{IsIdle, lessened, given, joined, spent}
 use Rattle.strip_gate.proofs.Sums.{put_here, one_value, sum_set, sum_push, same_is}
-use Rattle.strip_gate.proofs.Lists.{starts_self, entries_begin, spare_cut, spare_first, longer_starts, shorter_starts, longer_whole, longer_both, lists_between, times_append}
+use Rattle.strip_gate.proofs.Lists.{entries_begin, spare_cut, spare_first, longer_starts, shorter_starts, longer_whole, longer_both, lists_between, times_append}
 use Rattle.strip_gate.proofs.Keeps.{each_set, differ_set, Rule}
 
 module _ {S E F : Type 0} (kept : S → List E) (fixed : S → F) (caller : E → ℕ) where

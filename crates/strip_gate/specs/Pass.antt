@@ -1,9 +1,9 @@
 -- What contracts see of a gate and of a pass.
-use Rattle.std.specs.Prelude.{◌≡◌, ℕ, List, [], ◌∷◌, Bool, Option, All, Contains, ◌⊎◌}
+use Rattle.std.specs.Prelude.{◌≡◌, ℕ, List, Bool, Option, All, Contains, ◌⊎◌}
 use Rattle.atomic_table.specs.Seated.{TableId}
 use Rattle.strip_gate.specs.History.{entries_of}
 
--- which gate it is, and what no turn changes
+-- which gate it is, and `Some` of what no turn changes
 pub record GateId (F : Type 0) : Type 0 where
   pub table : TableId
   pub fixed : Option F

@@ -1,11 +1,11 @@
 -- What each step makes of the view of its pass, and what it tells.
-use Rattle.std.specs.Prelude.{◌≡◌, ◌≢◌, ℕ, ◌+◌, ◌-◌, ◌*◌, ◌%◌, ◌^◌, ◌<◌, ◌≤◌, List, [], ◌∷◌, ◌++◌, length, drop, Option, Some, None, All, ◌⊎◌, Bool, is_some}
+use Rattle.std.specs.Prelude.{◌≡◌, ◌≢◌, ℕ, ◌+◌, ◌-◌, ◌%◌, ◌^◌, ◌<◌, ◌≤◌, List, [], ◌∷◌, ◌++◌, length, drop, Option, Some, None, All, Bool}
 use Rattle.atomic_table.specs.Table.{Me, Step}
 use Rattle.atomic_table.specs.Seated.{TableId}
 use Rattle.strip_gate.specs.declared.view.View.{View}
 use Rattle.strip_gate.specs.History.{StartsWith, longer, shorter, numbered, entries_of}
 use Rattle.strip_gate.specs.Rule.{IsListOf}
-use Rattle.strip_gate.specs.Pass.{GateId, PassView}
+use Rattle.strip_gate.specs.Pass.{PassView}
 
 -- the seat is of this board, which has three words and one slot
 abbrev pub Fits : TableId → TableId → Type 0
@@ -23,6 +23,10 @@ module _ {E : Type 0} where
   abbrev pub ended_in : List (ℕ × List (ℕ × E)) → List (ℕ × List (ℕ × E))
   ended_in [] = []
   ended_in (h ∷ hs) = hs
+
+  -- the lists begin with the pass's own
+  abbrev pub IsOwn : ℕ → List (ℕ × List (ℕ × E)) → Type 0
+  IsOwn n hs = hs ≡ (n, mine_in hs) ∷ ended_in hs
 
   -- the caller's own list with more entries
   abbrev pub with_mine : List (ℕ × E) → List (ℕ × List (ℕ × E)) → List (ℕ × List (ℕ × E))
@@ -202,6 +206,10 @@ pass_view table v has_turn = record {
   has_turn = has_turn;
 }
 
+-- two passes as one: the callers of the other have ended in it
+abbrev pub with_other : {E F : Type 0} → PassView E F → PassView E F → PassView E F
+with_other p o = record p { weight = p.weight + o.weight; seen = longer p.seen o.seen; ended = p.ended ++ (o.caller, o.mine) ∷ o.ended }
+
 module _ {S E F : Type 0} where
   -- a pass has the turn where the count of entries at its `enter` is kept, and its seat then has the slot
   abbrev pub IsPlaced : Me (Option S) (View E F) → Option ℕ → Type 0
@@ -213,7 +221,7 @@ pub record IsPass {S E F : Type 0} (caller : E → ℕ) (table : TableId) (me : 
   pub sized : (table.words ≡ 3) × (table.slots ≡ 1)
   pub placed : IsPlaced me count
   pub knows : Knows caller me.0
-  pub own : me.0.held ≡ (number, mine_in me.0.held) ∷ ended_in me.0.held
+  pub own : IsOwn number me.0.held
   pub weight_is : me.0.weight ≡ weight
   pub next_is : me.0.spare_from ≡ next
   pub spare_is : me.0.spare ≡ spare

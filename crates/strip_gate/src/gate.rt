@@ -14,7 +14,9 @@ use std::marker::Model;
 use std::snapshot::Snapshot;
 use std::sync::Wait;
 
-/// A state that passes take turns with. Contracts see it as a `GateId`: which gate it is, and what no turn changes.
+/// A state that passes take turns with. Threads share it by reference.
+///
+/// Contracts see it as a `GateId`: which gate it is, and what no turn changes. Every call takes a pass of this gate.
 pub struct Gate<S: Kept> {
     room: Room<S>,
 }
@@ -72,12 +74,18 @@ impl<S: Kept> Gate<S> {
         }
     }
 
-    /// Waits for a turn. Turns come in the order in which they were asked for.
+    /// Draws a ticket, and sleeps until it is served. Tickets are served in the order in which they were drawn.
+    ///
+    /// It may never return, as where another pass keeps its turn.
     pub fn enter<R: Wait>(&self, rt: &R, pass: &mut Pass<S>) -> Turn<S>
         requires gate { pass.old.gate ≡ self.now }
         requires idle { pass.old.has_turn ≡ false }
         // It has then seen all that the state has kept, and has had one turn more.
-        ensures pass { pass.new ≡ record pass.old { seen = S.kept result; turns = pass.old.turns + 1; has_turn = true } }
+        ensures pass { pass.new ≡ record pass.old {
+          seen = S.kept result;
+          turns = pass.old.turns + 1;
+          has_turn = true;
+        } }
         ensures longer { StartsWith (S.kept result) pass.old.seen }
         ensures fixed { self.now.fixed ≡ Some (S.fixed result) }
         ensures entries { HasEntries S.caller pass.new }
@@ -87,12 +95,14 @@ impl<S: Kept> Gate<S> {
         Turn { state }
     }
 
-    /// Ends the turn. The state has kept what it had at the enter, or that with one entry of the pass's caller at its end.
+    /// Ends the turn, and gives the state back. The state has kept what it had at the enter, or that with one entry of the
+    /// pass's caller at its end. Any other change of what it has kept, or of what no turn may change, is refused.
     pub fn leave(&self, pass: &mut Pass<S>, turn: Turn<S>)
         requires gate { pass.old.gate ≡ self.now }
         requires turn { pass.old.has_turn ≡ true }
         requires fixed { self.now.fixed ≡ Some (S.fixed turn) }
-        requires kept { (S.kept turn ≡ pass.old.seen) ⊎ ((e : S.Entry) × (S.kept turn ≡ pass.old.seen ++ e ∷ []) × (S.caller e ≡ pass.old.caller)) }
+        requires kept { (S.kept turn ≡ pass.old.seen)
+            ⊎ ((e : S.Entry) × (S.kept turn ≡ pass.old.seen ++ e ∷ []) × (S.caller e ≡ pass.old.caller)) }
         ensures seen { pass.new.seen ≡ S.kept turn }
         ensures same { S.kept turn ≡ pass.old.seen → pass.new ≡ record pass.old { has_turn = false } }
         ensures more { (e : S.Entry) → S.kept turn ≡ pass.old.seen ++ e ∷ [] → pass.new ≡ record pass.old {
@@ -117,7 +127,11 @@ impl<S: Kept> Gate<S> {
         requires gate { pass.gate ≡ self.now }
         requires idle { pass.has_turn ≡ false }
         requires part { (0 < part) × (part ≤ pass.spare) }
-        ensures first { result.0 ≡ record pass { weight = pass.weight - part; spare_from = pass.spare_from + part; spare = pass.spare - part } }
+        ensures first { result.0 ≡ record pass {
+          weight = pass.weight - part;
+          spare_from = pass.spare_from + part;
+          spare = pass.spare - part;
+        } }
         ensures second { result.1 ≡ record pass {
           caller = pass.spare_from;
           weight = part;
@@ -157,7 +171,7 @@ impl<S: Kept> Gate<S> {
         (first, second)
     }
 
-    /// Makes one pass of two. It keeps its own caller and spare numbers. The caller of `other`, and those that ended in
+    /// Makes one pass of two. It has the weight of both, and keeps its own caller and spare numbers. The caller of `other`, and those that ended in
     /// `other`, have ended in it.
     pub fn join(&self, pass: Pass<S>, other: Pass<S>) -> Pass<S>
         requires gate { (pass.gate ≡ self.now) × (other.gate ≡ self.now) }
@@ -176,7 +190,7 @@ impl<S: Kept> Gate<S> {
             weight,
             next,
             spare,
-            count,
+            count: _,
         } = pass;
         let Pass {
             place: other_place,
@@ -193,11 +207,11 @@ impl<S: Kept> Gate<S> {
             weight: weight + other_weight,
             next,
             spare,
-            count,
+            count: None,
         }
     }
 
-    /// Ends the gate, and gives its state back.
+    /// Ends the gate, and gives its state back. It takes the pass that has all the weight, so no other pass is left.
     pub fn close(self, pass: Pass<S>) -> S
         requires gate { pass.gate ≡ self }
         requires idle { pass.has_turn ≡ false }

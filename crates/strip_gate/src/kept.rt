@@ -9,7 +9,7 @@ pub trait Kept {
     /// What no turn may change.
     type Fixed;
 
-    // The history, the oldest entry first.
+    // The kept history, the oldest entry first. A turn adds one entry at its end at most.
     ghost kept: { Self → List Self.Entry };
 
     ghost fixed: { Self → Self.Fixed };

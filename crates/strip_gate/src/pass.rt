@@ -1,5 +1,5 @@
 //! A pass, with which a thread takes turns.
-ghost use Rattle.std.specs.Prelude.{◌≡◌, ◌<◌};
+ghost use Rattle.std.specs.Prelude.{◌≡◌, ◌<◌, ◌≤◌};
 ghost use Rattle.strip_gate.specs.Pass.{HasEntries};
 
 use crate::kept::Kept;
@@ -11,7 +11,8 @@ pub const WHOLE: u64 = 1_048_576;
 
 /// What a thread needs to take turns. Contracts see it as a `PassView`: its caller number, its weight, what it has seen, and more.
 ///
-/// A pass that is let go keeps its weight, so that its gate cannot be closed any more.
+/// A pass that is let go keeps its weight, so that its gate cannot be closed any more. One that is let go with the turn
+/// leaves the others waiting for ever.
 #[derive(Drop)]
 pub struct Pass<S: Kept> {
     pub(crate) place: Place<S>,
@@ -47,7 +48,8 @@ impl<S: Kept> Pass<S> {
 
     /// How much of `WHOLE` it has.
     pub fn weight(&self) -> u64
-        ensures { result ≡ self.now.weight }
+        ensures weight { result ≡ self.now.weight }
+        ensures bounds { (0 < result) × (result ≤ WHOLE) }
     {
         self.weight
     }

@@ -1,7 +1,8 @@
 //! The steps of a turn, each over the table and the pass's seat at it.
 ghost use Rattle.std.specs.Prelude.{◌≡◌, ◌≢◌, ℕ, ◌+◌, ◌%◌, ◌^◌, ◌<◌, ◌≤◌, ◌⊎◌, [], ◌∷◌, ◌++◌, Some, None, true, false};
 ghost use Rattle.strip_gate.specs.History.{entries_of};
-ghost use Rattle.strip_gate.specs.Steps.{Fits, IsIdle, HasTurn, Knows, Takes, Enters, Leaves, IsGrown, caller_in, mine_in, ended_in, log_of, waiting, appended, rested, marked, lessened, given, joined};
+ghost use Rattle.strip_gate.specs.Pass.{HasEntries};
+ghost use Rattle.strip_gate.specs.Steps.{Fits, IsIdle, HasTurn, Knows, Takes, Enters, Leaves, IsGrown, caller_in, mine_in, ended_in, log_of, IsOwn, pass_view, with_other, waiting, appended, rested, marked, lessened, given, joined};
 
 use crate::kept::Kept;
 use crate::plays::{Append, Cut, Draw, Look, Mark, Merge, PassOn, Settle};
@@ -76,7 +77,7 @@ fn count_entry<S: Kept>(board: &Board<S>, place: &mut Place<S>, grew: bool)
     requires fits { Fits board.now.table_id place.old.table_id }
     requires turn { HasTurn place.old.me.0 }
     requires state { (x : S) × (place.old.me.1 ≡ (0, Some x) ∷ []) }
-    requires own { place.old.me.0.held ≡ (caller_in place.old.me.0.held, mine_in place.old.me.0.held) ∷ ended_in place.old.me.0.held }
+    requires own { IsOwn (caller_in place.old.me.0.held) place.old.me.0.held }
     requires grew { grew ≡ true → IsGrown S.caller place.old.me.0 (log_of S.kept place.old.me.1) }
     requires same { grew ≡ false → log_of S.kept place.old.me.1 ≡ place.old.me.0.seen }
     ensures place { place.new.table_id ≡ place.old.table_id }
@@ -104,7 +105,7 @@ fn pass_on<S: Kept>(board: &Board<S>, place: &mut Place<S>)
 pub fn end_turn<S: Kept>(board: &Board<S>, place: &mut Place<S>, state: S, grew: bool)
     requires fits { Fits board.now.table_id place.old.table_id }
     requires turn { HasTurn place.old.me.0 × (place.old.me.1 ≡ (0, None) ∷ []) }
-    requires own { place.old.me.0.held ≡ (caller_in place.old.me.0.held, mine_in place.old.me.0.held) ∷ ended_in place.old.me.0.held }
+    requires own { IsOwn (caller_in place.old.me.0.held) place.old.me.0.held }
     requires fixed { place.old.me.0.fixed ≡ Some (S.fixed state) }
     requires grew { grew ≡ true → IsGrown S.caller place.old.me.0 (S.kept state) }
     requires same { grew ≡ false → S.kept state ≡ place.old.me.0.seen }
@@ -143,8 +144,11 @@ pub fn give<S: Kept>(board: &Board<S>, place: &mut Place<S>, part: u64) -> Place
 pub fn take_in<S: Kept>(board: &Board<S>, place: &mut Place<S>, other: Place<S>)
     requires fits { Fits board.now.table_id place.old.table_id × Fits board.now.table_id other.table_id }
     requires idle { IsIdle place.old.me.0 × IsIdle other.me.0 × (other.me.1 ≡ []) }
+    requires own { IsOwn (caller_in place.old.me.0.held) place.old.me.0.held × IsOwn (caller_in other.me.0.held) other.me.0.held }
     ensures place { place.new.table_id ≡ place.old.table_id }
     ensures after { (place.new.me ≡ (joined place.old.me.0 other.me.0, place.old.me.1)) × Knows S.caller place.new.me.0 }
+    ensures view { pass_view place.new.table_id place.new.me.0 false ≡ with_other (pass_view place.old.table_id place.old.me.0 false) (pass_view other.table_id other.me.0 false) }
+    ensures entries { HasEntries S.caller (pass_view place.new.table_id place.new.me.0 false) }
 {
     board.join_seat::<Merge>(place, other);
     board.load::<Settle>(place, LENGTH);

@@ -1,4 +1,4 @@
-use Rattle.std.proofs.Common.{arith, sym, ap, ◌∙◌}
+use Rattle.std.proofs.Common.{arith, ap, ◌∙◌}
 use Rattle.strip_gate.proofs.Keeps.{looking}
 use Rattle.strip_gate.proofs.steps.await_turn.Goals as goal
 

@@ -1,4 +1,4 @@
-use Rattle.std.proofs.Common.{◌≡◌, ◌<◌, Some, sym, ap, ◌∙◌, subst}
+use Rattle.std.proofs.Common.{◌<◌, Some, sym, ap, ◌∙◌, subst}
 use mathlib.Core.Option.{some-injective}
 use Rattle.std.specs.Prelude.{All, is_some}
 use Rattle.strip_gate.specs.Pass.{IsNamed}
