@@ -10,6 +10,7 @@ module _ {E : Type 0} where
   abbrev pub longer : List E → List E → List E
   longer xs ys = if nat_lt (length xs) (length ys) then ys else xs
 
+  -- and the shorter
   abbrev pub shorter : List E → List E → List E
   shorter xs ys = if nat_lt (length xs) (length ys) then xs else ys
 

@@ -92,19 +92,23 @@ module _ {S E F : Type 0} (kept : S → List E) (fixed : S → F) (caller : E �
 
   -- The rule of the gate
   pub record IsKept (s : State (Option S) (View E F)) : Type 0 where
-    -- the one history, what is fixed, and how many tickets were drawn and served
+    -- there are one history, one fixed part, and numbers of tickets drawn and served
     pub log : List E
     pub fact : F
     pub ticket : ℕ
     pub serving : ℕ
+    -- the three words count the entries, the tickets drawn and the tickets served
     pub words : s.words ≡ length log % 2 ^ 64 ∷ ticket % 2 ^ 64 ∷ serving % 2 ^ 64 ∷ []
     -- the weights add up to the whole
     pub whole : total weight_of s.views ≡ 1048576
     -- the tickets out are as many as those from the one being served up to the next to be drawn, and no two are the same
     pub tickets : ticket ≡ serving + total waits_of s.views
     pub differ : Differ s.views
+    -- where each pass stands in the line
     pub in_line : (i : ℕ) (v : View E F) → get_elem? s.views i ≡ some v → IsInLine log ticket serving v
+    -- the state is at home exactly while no pass has the turn
     pub home : Home log fact s.homes (total holds_of s.views)
+    -- what each pass knows
     pub known : (i : ℕ) (v : View E F) → get_elem? s.views i ≡ some v → IsKnown caller log fact v
     -- some pass has seen all
     pub latest : (i : ℕ) × (v : View E F) × (get_elem? s.views i ≡ some v) × (0 < v.weight) × (v.seen ≡ log)

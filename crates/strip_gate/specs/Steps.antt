@@ -12,6 +12,7 @@ abbrev pub Fits : TableId → TableId → Type 0
 Fits board place = (place ≡ board) × (board.words ≡ 3) × (board.slots ≡ 1)
 
 module _ {E : Type 0} where
+  -- of the lists by caller: the first one's caller, its entries, and the others
   abbrev pub caller_in : List (ℕ × List (ℕ × E)) → ℕ
   caller_in [] = 0
   caller_in (h ∷ hs) = h.0
@@ -118,6 +119,7 @@ module _ {E F : Type 0} where
   abbrev pub IsIdle : View E F → Type 0
   IsIdle v = (v.waits ≡ 0) × (v.holds ≡ 0) × (0 < v.weight)
 
+  -- a pass whose ticket is served and that took the state
   abbrev pub HasTurn : View E F → Type 0
   HasTurn v = (v.waits ≡ 1) × (v.holds ≡ 1)
 
@@ -158,6 +160,7 @@ module _ {S E F : Type 0} (kept : S → List E) (fixed : S → F) (caller : E �
   looks st me found me' = (found ≡ me.0.number % 2 ^ 64 → Takes me me') × (found ≢ me.0.number % 2 ^ 64 → me' ≡ me)
 
 module _ {S E : Type 0} (kept : S → List E) where
+  -- what a state has kept, if there is one
   abbrev pub log_in : Option S → List E
   log_in None = []
   log_in (Some x) = kept x
@@ -168,7 +171,7 @@ module _ {S E : Type 0} (kept : S → List E) where
   log_of (x ∷ xs) = log_in x.1
 
 module _ {S E F : Type 0} (kept : S → List E) where
-  -- the entry counts
+  -- the entry that the state has more is counted
   abbrev pub appends : Step (Option S) → Me (Option S) (View E F) → ℕ → Me (Option S) (View E F) → Type 0
   appends st me found me' = me' ≡ (appended (log_of kept me.1) me.0, me.1)
 
