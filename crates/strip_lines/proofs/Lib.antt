@@ -1,0 +1,4 @@
+pub mod SegmentLaws
+pub mod RoomLaws
+pub mod ReadingLaws
+pub mod CallLaws
