@@ -114,11 +114,13 @@ Outcome-found old mid new left left1 before after piece p same looks whole behin
       consumed = p.consumed;
       counted = taken ∙ p.counted;
       same_limit = limit ∙ p.same_limit;
+      never_falls = omega (arith, p.faults);
       faults = p.faults;
       answer = Answers-whole old new p.given left1 piece whole (record {
         going = done;
         within = omega (arith, p.within, taken, limit);
         next = λ more. p.next more ∙ coming-looks mid new (piece ∷ []) p.going done looks more;
+        whole = λ more. p.whole more ∙ ended-looks mid new (piece ∷ []) looks more;
         behind = omega (arith, behind, p.same_from);
         among = among;
       });
@@ -132,11 +134,13 @@ Outcome-memory old mid new left left1 before after p same = record {
   consumed = p.consumed;
   counted = ap (λ r. r.taken) same ∙ p.counted;
   same_limit = ap (λ r. r.limit) same ∙ p.same_limit;
+  never_falls = omega (arith, p.faults);
   faults = p.faults;
   answer = record {
     going = ap (λ r. r.done) same ∙ p.going ∙ sym p.began;
     within = subst (λ r. r.taken ≤ r.limit) (sym same) p.within;
     same = λ more. p.next more ∙ ap (λ r. coming r more) (sym same);
+    whole = λ more. p.whole more ∙ ap (λ r. ended r more) (sym same);
   };
 }
 
@@ -163,6 +167,7 @@ Outcome-last old mid same new left left1 left2 before after after2 piece p looke
       consumed = Consumes-trans left left1 left2 p.given [] p.consumed takes.1;
       counted = omega (arith, taken, p.counted, ap length (append-nil p.given));
       same_limit = limit ∙ p.same_limit;
+      never_falls = omega (arith, takes.3, p.faults);
       faults = takes.3 ∙ p.faults;
       answer = Answers-last old new (p.given ++ []) left2 piece is_last (record {
         over = done;
@@ -188,12 +193,14 @@ Outcome-failed old mid new left left1 left2 before after after2 Fault p looked t
   consumed = subst (λ l. Consumes left l p.given) (sym takes.1) p.consumed;
   counted = ap (λ r. r.taken) takes.0 ∙ p.counted;
   same_limit = ap (λ r. r.limit) takes.0 ∙ p.same_limit;
+  never_falls = omega (arith, takes.3, p.faults);
   faults = subst (λ n. Rose n after2) p.faults takes.2;
   answer = (
     record {
       going = ap (λ r. r.done) takes.0 ∙ p.going ∙ sym p.began;
       within = subst (λ r. r.taken ≤ r.limit) (sym takes.0) p.within;
       same = λ more. p.next more ∙ ap (λ r. coming r more) (sym takes.0);
+      whole = λ more. p.whole more ∙ ap (λ r. ended r more) (sym takes.0);
     },
     Progress-answered old mid left left1 before after p looked,
     ap (λ r. ended r []) takes.0 ∙ ended-looked mid looked,
@@ -207,6 +214,7 @@ Outcome-failed old mid new left left1 left2 before after after2 (TooMuch limit) 
       consumed = Consumes-trans left left1 left2 p.given (byte ∷ []) p.consumed takes.1.1;
       counted = omega (arith, taken, takes.2, p.counted, length-append p.given (byte ∷ []));
       same_limit = ap (λ r. r.limit) takes.0 ∙ p.same_limit;
+      never_falls = omega (arith, takes.4, p.faults);
       faults = takes.4 ∙ p.faults;
       answer = (
         takes.3 ∙ p.same_limit,
@@ -231,6 +239,7 @@ Outcome-end old left faults done within = record {
   consumed = Consumes-nil left;
   counted = omega arith;
   same_limit = refl;
+  never_falls = omega arith;
   faults = refl;
   answer = record {
     over = done;

@@ -3,7 +3,7 @@ use Rattle.std.proofs.Common.{◌≡◌, ℕ, true, false, List, [], ◌++◌, s
 use Rattle.std.specs.Prelude.{if◌then◌else◌}
 use Rattle.strip_value.specs.declared.pieces.Piece.{Piece}
 use Rattle.strip_value.specs.Pieces.{last_pieces, pieces_from, pieces}
-use Rattle.strip_lines.specs.Reading.{Reading, fresh, segments_on, whole_pieces, coming, ended}
+use Rattle.strip_lines.specs.Reading.{Reading, fresh, segments_on, whole_pieces, whole_statements, coming, ended}
 use Rattle.strip_lines.specs.Steps.{Looks}
 use Rattle.strip_lines.proofs.SegmentLaws.{begun_with-nil}
 
@@ -61,3 +61,8 @@ coming-looked reading going looked =
     coming-going reading going []
     ∙ ap (λ w. pieces_from reading.begun.from (segments_on reading.begun (w ++ []))) looked
     ∙ ap (last_pieces reading.begun.from) (append-nil reading.begun.bytes)
+
+-- at the beginning the whole pieces of what follows are to be answered
+pub ended-fresh : (limit : ℕ) (bytes : List ℕ) → ended (fresh limit) bytes ≡ whole_statements bytes
+unfolding ended whole_statements
+ended-fresh limit bytes = ap (whole_pieces 0) (begun_with-nil false bytes)

@@ -13,6 +13,7 @@ pub record IsNext (old new : Reading) (given : List ℕ) (piece : Piece) : Type 
   pub going : new.done ≡ false
   pub within : new.taken ≤ new.limit
   pub next : (more : List ℕ) → coming old (given ++ more) ≡ piece ∷ coming new more
+  pub whole : (more : List ℕ) → ended old (given ++ more) ≡ piece ∷ ended new more
   pub behind : old.begun.from < new.begun.from
   pub among : new.begun.from ≤ new.limit
 
@@ -24,11 +25,12 @@ pub record IsLastOf (old new : Reading) (given : List ℕ) (left : Option (List 
   pub none : (more : List ℕ) → coming new more ≡ []
   pub at_end : old.done ≡ false → IsAtEnd left
 
--- no piece, but what was taken is kept: the same pieces are to come
+-- no piece, but what was taken is kept: the same pieces are to come, and the same whole ones weren't answered
 pub record IsKept (old new : Reading) (given : List ℕ) : Type 0 where
   pub going : new.done ≡ old.done
   pub within : new.taken ≤ new.limit
   pub same : (more : List ℕ) → coming old (given ++ more) ≡ coming new more
+  pub whole : (more : List ℕ) → ended old (given ++ more) ≡ ended new more
 
 -- the bytes given fill the limit and go on one byte past it, and no whole piece ends among those within it
 pub record FillsLimit (old : Reading) (given : List ℕ) : Type 0 where
@@ -63,6 +65,7 @@ pub record Outcome (old new : Reading) (left_before left_now : Option (List ℕ)
   pub consumed : Consumes left_before left_now given
   pub counted : new.taken ≡ old.taken + length given
   pub same_limit : new.limit ≡ old.limit
+  pub never_falls : before ≤ now
   pub faults : CountsRead before now result
   pub answer : Answers old new given left_now result
 

@@ -39,6 +39,10 @@ whole_pieces from [] = []
 whole_pieces from (s ∷ []) = []
 whole_pieces from (s ∷ t ∷ segments) = whole_piece from s ∷ whole_pieces (from + length s + 1) (t ∷ segments)
 
+-- the pieces of a text that a `;` has ended
+unfoldable pub whole_statements : List ℕ → List Piece
+whole_statements bytes = whole_pieces 0 (segments_of false bytes)
+
 -- the pieces still to come where `more` is what the source still gives before it ends
 unfoldable pub coming : Reading → List ℕ → List Piece
 coming reading more =

@@ -57,13 +57,13 @@ Cuts old new before now (Err e) = (new ≡ old) × (now ≡ before)
 abbrev pub Fills : {E : Type 0} → List ℕ → ℕ → Option (List ℕ) → Option (List ℕ) → ℕ → ℕ → Result ℕ E → Type 0
 Fills room most left_before left_now before now (Ok n) =
     Consumes left_before left_now room × (length room ≡ n) × (n ≤ most) × (n ≡ 0 → 0 < most → IsAtEnd left_now) × (now ≡ before)
-Fills room most left_before left_now before now (Err fault) = (room ≡ []) × (left_now ≡ left_before) × Rose before now
+Fills room most left_before left_now before now (Err fault) = (room ≡ []) × (left_now ≡ left_before) × Rose before now × (before ≤ now)
 
 -- what a read of one byte tells: whether the source gave one
 abbrev pub TellsEnd : {E : Type 0} → Option (List ℕ) → Option (List ℕ) → ℕ → ℕ → Result Bool E → Type 0
 TellsEnd left_before left_now before now (Ok true) = Consumes left_before left_now [] × IsAtEnd left_now × (now ≡ before)
 TellsEnd left_before left_now before now (Ok false) = ((byte : ℕ) × Consumes left_before left_now (byte ∷ [])) × (now ≡ before)
-TellsEnd left_before left_now before now (Err fault) = (left_now ≡ left_before) × Rose before now
+TellsEnd left_before left_now before now (Err fault) = (left_now ≡ left_before) × Rose before now × (before ≤ now)
 
 -- what taking bytes does where all that were taken were looked at: some came, or the end did, or the byte past the limit
 abbrev pub Takes : Reading → Reading → Option (List ℕ) → Option (List ℕ) → ℕ → ℕ → Result Bool ReadError → Type 0
@@ -75,7 +75,8 @@ Takes old new left_before left_now before now (Ok true) =
     × (now ≡ before)
 Takes old new left_before left_now before now (Ok false) =
     (new ≡ old) × Consumes left_before left_now [] × IsAtEnd left_now × (now ≡ before)
-Takes old new left_before left_now before now (Err Fault) = (new ≡ old) × (left_now ≡ left_before) × Rose before now
+Takes old new left_before left_now before now (Err Fault) =
+    (new ≡ old) × (left_now ≡ left_before) × Rose before now × (before ≤ now)
 Takes old new left_before left_now before now (Err (TooMuch limit)) =
     (new ≡ record old { taken = old.limit + 1 })
     × ((byte : ℕ) × Consumes left_before left_now (byte ∷ []))

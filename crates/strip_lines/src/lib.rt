@@ -8,7 +8,9 @@ mod cuts;
 mod errors;
 mod readers;
 mod rooms;
+mod texts;
 
 pub use errors::ReadError;
 pub use readers::Pieces;
 pub use strip_value::Piece;
+pub use texts::{PieceList, all_statements};

@@ -1,6 +1,5 @@
-use Rattle.std.proofs.Common.{length, sym, ap, subst, arith, []}
-use Rattle.std.proofs.Common.{◌≤◌, ◌<◌, take, ◌++◌}
-use Rattle.strip_lines.specs.Steps.{IsLike}
+use Rattle.std.proofs.Common.{◌<◌, ◌≤◌, [], ◌++◌, length, take, sym, ap, subst, arith}
+use Rattle.strip_lines.specs.Steps.{IsLike, Looks}
 use Rattle.strip_lines.proofs.SegmentLaws.{EndsAt-along, Looks-none, Looks-cut}
 use Rattle.strip_lines.proofs.cuts.cut.Goals as goal
 
@@ -12,7 +11,7 @@ returns-then-not-whole c =
     let like = subst (λ l. IsLike (c.args.begun.now.bytes ++ take run l) c.go_on.new.self.bytes) room c.in_ok-go_on.ensures.grown in
     let all = subst (λ l. length l ≤ run) room c.if-not-whole.true in
     let looks = Looks-none c.args.begun.now c.go_on.new.self c.args.room.now run ends like c.in_ok-go_on.ensures.from all in
-    (subst (λ r. Rattle.strip_lines.specs.Steps.Looks c.args.begun.now c.go_on.new.self c.args.room.now r []) (sym c.clear.ensures) looks, c.clear.ensures, c.in_ok-go_on.ensures.from)
+    (subst (λ r. Looks c.args.begun.now c.go_on.new.self c.args.room.now r []) (sym c.clear.ensures) looks, c.clear.ensures, c.in_ok-go_on.ensures.from)
 
 pub returns : goal.returns
 returns c =
