@@ -14,3 +14,6 @@ pub use errors::ReadError;
 pub use readers::Pieces;
 pub use strip_value::Piece;
 pub use texts::{PieceList, all_statements};
+
+#[cfg(test)]
+mod tests;
