@@ -137,7 +137,8 @@ Outcome-memory old mid new left left1 before after p same = record {
   never_falls = omega (arith, p.faults);
   faults = p.faults;
   answer = record {
-    going = ap (λ r. r.done) same ∙ p.going ∙ sym p.began;
+    was_going = p.began;
+    going = ap (λ r. r.done) same ∙ p.going;
     within = subst (λ r. r.taken ≤ r.limit) (sym same) p.within;
     same = λ more. p.next more ∙ ap (λ r. coming r more) (sym same);
     whole = λ more. p.whole more ∙ ap (λ r. ended r more) (sym same);
@@ -197,7 +198,8 @@ Outcome-failed old mid new left left1 left2 before after after2 Fault p looked t
   faults = subst (λ n. Rose n after2) p.faults takes.2;
   answer = (
     record {
-      going = ap (λ r. r.done) takes.0 ∙ p.going ∙ sym p.began;
+      was_going = p.began;
+      going = ap (λ r. r.done) takes.0 ∙ p.going;
       within = subst (λ r. r.taken ≤ r.limit) (sym takes.0) p.within;
       same = λ more. p.next more ∙ ap (λ r. coming r more) (sym takes.0);
       whole = λ more. p.whole more ∙ ap (λ r. ended r more) (sym takes.0);
@@ -219,8 +221,8 @@ Outcome-failed old mid new left left1 left2 before after after2 (TooMuch limit) 
       answer = (
         takes.3 ∙ p.same_limit,
         omega (arith, taken, takes.3),
-        ap (λ r. r.done) takes.0 ∙ p.going ∙ sym p.began,
         λ within. record {
+          was_going = p.began;
           bytes = p.given;
           past = byte;
           split = refl;

@@ -2,10 +2,10 @@
 use Rattle.std.proofs.Common.{◌≡◌, ℕ, true, false, List, [], ◌++◌, sym, ap, ◌∙◌, append-nil}
 use Rattle.std.specs.Prelude.{if◌then◌else◌}
 use Rattle.strip_value.specs.declared.pieces.Piece.{Piece}
-use Rattle.strip_value.specs.Pieces.{last_pieces, pieces_from, pieces}
+use Rattle.strip_value.specs.Pieces.{segments_of, last_pieces, pieces_from, pieces}
 use Rattle.strip_lines.specs.Reading.{Reading, fresh, segments_on, whole_pieces, whole_statements, coming, ended}
 use Rattle.strip_lines.specs.Steps.{Looks}
-use Rattle.strip_lines.proofs.SegmentLaws.{begun_with-nil}
+use Rattle.strip_lines.proofs.SegmentLaws.{begun_with-nil, pieces_from-whole}
 
 -- at the beginning all pieces are to come
 pub coming-fresh : (limit : ℕ) (bytes : List ℕ) → coming (fresh limit) bytes ≡ pieces bytes
@@ -66,3 +66,8 @@ coming-looked reading going looked =
 pub ended-fresh : (limit : ℕ) (bytes : List ℕ) → ended (fresh limit) bytes ≡ whole_statements bytes
 unfolding ended whole_statements
 ended-fresh limit bytes = ap (whole_pieces 0) (begun_with-nil false bytes)
+
+-- all pieces of a text are the whole ones, and what follows the last `;`
+pub pieces-whole : (bytes : List ℕ) → (last : List Piece) × (pieces bytes ≡ whole_statements bytes ++ last)
+unfolding pieces whole_statements
+pieces-whole bytes = pieces_from-whole 0 (segments_of false bytes)

@@ -1,12 +1,13 @@
 -- Several calls of `next_statement` on one reader, for loops that make them.
-use Rattle.std.proofs.Common.{◌≡◌, ℕ, ◌+◌, ◌-◌, ◌<◌, ◌≤◌, Bool, true, false, List, [], ◌∷◌, ◌++◌, length, Option, Ok, sym, refl, ap, ◌∙◌, subst, append_assoc, append-nil, arith, length-append}
+use Rattle.std.proofs.Common.{◌≡◌, ℕ, ◌+◌, ◌-◌, ◌<◌, ◌≤◌, Bool, true, false, List, [], ◌∷◌, ◌++◌, length, Option, Ok, Err, sym, refl, ap, ◌∙◌, subst, append_assoc, append-nil, arith, length-append}
 use Rattle.std.specs.Prelude.{if◌then◌else◌, MatchBool}
 use Rattle.std.specs.Io.KnownBytes.{Consumes, IsAtEnd}
 use Rattle.std.proofs.KnownBytes.{Consumes-trans, Consumes-nil}
 use Rattle.strip_value.specs.declared.pieces.Piece.{Piece}
 use Rattle.strip_value.specs.declared.pieces.Piece.TheVariants.{Statement, TooLong, Rest, End}
+use Rattle.strip_lines.specs.declared.errors.ReadError.TheVariants.{Fault, TooMuch}
 use Rattle.strip_lines.specs.Reading.{Reading, coming, ended, most_left}
-use Rattle.strip_lines.specs.Answers.{IsNext, IsLastOf, Outcome}
+use Rattle.strip_lines.specs.Answers.{IsNext, IsLastOf, IsKept, Outcome}
 use Rattle.strip_lines.proofs.ReadingLaws.{coming-done}
 
 -- calls that answered these pieces and no `TooMuch`: the bytes given in all of them, and what is still to come
@@ -134,6 +135,60 @@ Run-end start old new left left1 left2 before after answered run outcome again =
       })
     ] in
     by_case old.done refl
+
+-- one more call, which answered no piece and kept what was taken: the run can go on
+pub Run-kept : (start old new : Reading) (left left1 left2 : Option (List ℕ)) (answered : List Piece) (given : List ℕ)
+    → Run start old left left1 answered → Consumes left1 left2 given → new.taken ≡ old.taken + length given → new.limit ≡ old.limit
+    → IsKept old new given → Run start new left left2 answered
+Run-kept start old new left left1 left2 answered given run consumed counted limit kept = record {
+  given = run.given ++ given;
+  consumed = Consumes-trans left left1 left2 run.given given run.consumed consumed;
+  counted = omega (arith, run.counted, counted, length-append run.given given);
+  same_limit = limit ∙ run.same_limit;
+  within = kept.within;
+  next = λ still more. ap (coming start) (append_assoc run.given given more) ∙ run.next kept.was_going (given ++ more) ∙ ap (λ l. answered ++ l) (kept.same more);
+  whole = λ still more. ap (ended start) (append_assoc run.given given more) ∙ run.whole kept.was_going (given ++ more) ∙ ap (λ l. answered ++ l) (kept.whole more);
+  to_come = λ done. let still = kept.going in cc;
+  at_end = λ done. absurd (let still = kept.going in cc);
+}
+
+-- what a run that met a fault has answered: every whole piece among the bytes given
+pub record Stopped (start : Reading) (left_before left_now : Option (List ℕ)) (answered : List Piece) : Type 0 where
+  pub given : List ℕ
+  pub consumed : Consumes left_before left_now given
+  pub whole : ended start given ≡ answered
+  pub within : start.taken + length given ≤ start.limit
+
+pub Run-fault : (start old new : Reading) (left left1 left2 : Option (List ℕ)) (before after : ℕ) (answered : List Piece)
+    → Run start old left left1 answered → Outcome old new left1 left2 before after (Err Fault) → Stopped start left left2 answered
+Run-fault start old new left left1 left2 before after answered run outcome = record {
+  given = run.given ++ outcome.given;
+  consumed = Consumes-trans left left1 left2 run.given outcome.given run.consumed outcome.consumed;
+  whole = run.whole outcome.answer.0.was_going outcome.given ∙ ap (λ l. answered ++ l) outcome.answer.1 ∙ append-nil answered;
+  within = omega (arith, run.counted, run.same_limit, outcome.counted, outcome.same_limit, outcome.answer.0.within, length-append run.given outcome.given);
+}
+
+-- what a run that passed the limit has answered: every whole piece among the bytes within it
+pub record Passed (start : Reading) (left_before left_now : Option (List ℕ)) (answered : List Piece) : Type 0 where
+  pub bytes : List ℕ
+  pub past : ℕ
+  pub consumed : Consumes left_before left_now (bytes ++ past ∷ [])
+  pub whole : ended start bytes ≡ answered
+  pub full : start.taken + length bytes ≡ start.limit
+
+pub Run-too_much : (start old new : Reading) (left left1 left2 : Option (List ℕ)) (before after limit : ℕ) (answered : List Piece)
+    → Run start old left left1 answered → Outcome old new left1 left2 before after (Err (TooMuch limit)) → Passed start left left2 answered
+Run-too_much start old new left left1 left2 before after limit answered run outcome =
+    let fills = outcome.answer.2 run.within in
+    let taken : run.given ++ outcome.given ≡ (run.given ++ fills.bytes) ++ fills.past ∷ [] =
+    ap (λ l. run.given ++ l) fills.split ∙ sym (append_assoc run.given fills.bytes (fills.past ∷ [])) in
+    record {
+      bytes = run.given ++ fills.bytes;
+      past = fills.past;
+      consumed = subst (Consumes left left2) taken (Consumes-trans left left1 left2 run.given outcome.given run.consumed outcome.consumed);
+      whole = run.whole fills.was_going fills.bytes ∙ ap (λ l. answered ++ l) fills.answered ∙ append-nil answered;
+      full = omega (arith, run.counted, run.same_limit, fills.full, length-append run.given fills.bytes);
+    }
 
 -- fewer pieces can still come after one was answered
 pub most_left-next : (old new : Reading) (given : List ℕ) (piece : Piece) → new.limit ≡ old.limit → IsNext old new given piece → most_left new < most_left old

@@ -73,6 +73,14 @@ whole_pieces-cut from [] = refl
 whole_pieces-cut from (s ∷ []) = refl
 whole_pieces-cut from (s ∷ t ∷ segments) = ap (λ l. whole_piece from s ∷ l) (whole_pieces-cut (from + length s + 1) (t ∷ segments))
 
+-- the pieces of all segments are those of the whole ones, and what is made of the last one
+pub pieces_from-whole : (from : ℕ) (segments : List (List ℕ)) → (last : List Piece) × (pieces_from from segments ≡ whole_pieces from segments ++ last)
+pieces_from-whole from [] = ([], refl)
+pieces_from-whole from (s ∷ []) = (last_pieces from s, refl)
+pieces_from-whole from (s ∷ t ∷ segments) =
+    let rest = pieces_from-whole (from + length s + 1) (t ∷ segments) in
+    (rest.0, ap (λ l. whole_piece from s ∷ l) rest.1)
+
 -- a `;` ends the segment that has begun
 pub cut_from-end : (last : ℕ → List ℕ → List Piece) (from : ℕ) (bytes : List ℕ) (q : Bool) (rest : List ℕ)
     → cut_from last from (begun_with bytes ([] ∷ segments_of q rest)) ≡ whole_piece from bytes ∷ cut_from last (from + length bytes + 1) (begun_with [] (segments_of q rest))

@@ -46,7 +46,7 @@ ReadsAll-failed limit old new left left1 left2 before after after2 list Fault ru
   );
 }
 ReadsAll-failed limit old new left left1 left2 before after after2 list (TooMuch most) run same outcome =
-    let fills = outcome.answer.3 run.within in
+    let fills = outcome.answer.2 run.within in
     record {
       given = run.given ++ outcome.given;
       consumed = Consumes-trans left left1 left2 run.given outcome.given run.consumed outcome.consumed;

@@ -25,15 +25,17 @@ pub record IsLastOf (old new : Reading) (given : List ℕ) (left : Option (List 
   pub none : (more : List ℕ) → coming new more ≡ []
   pub at_end : old.done ≡ false → IsAtEnd left
 
--- no piece, but what was taken is kept: the same pieces are to come, and the same whole ones weren't answered
+-- no piece, but what was taken is kept: the same pieces are to come, and the same whole ones weren't answered yet
 pub record IsKept (old new : Reading) (given : List ℕ) : Type 0 where
-  pub going : new.done ≡ old.done
+  pub was_going : old.done ≡ false
+  pub going : new.done ≡ false
   pub within : new.taken ≤ new.limit
   pub same : (more : List ℕ) → coming old (given ++ more) ≡ coming new more
   pub whole : (more : List ℕ) → ended old (given ++ more) ≡ ended new more
 
 -- the bytes given fill the limit and go on one byte past it, and no whole piece ends among those within it
 pub record FillsLimit (old : Reading) (given : List ℕ) : Type 0 where
+  pub was_going : old.done ≡ false
   pub bytes : List ℕ
   pub past : ℕ
   pub split : given ≡ bytes ++ past ∷ []
@@ -49,7 +51,7 @@ Answers old new given left (Ok (Rest bytes)) = IsLastOf old new given left (Rest
 Answers old new given left (Ok End) = IsLastOf old new given left []
 Answers old new given left (Err Fault) = IsKept old new given × (ended old given ≡ []) × (ended new [] ≡ [])
 Answers old new given left (Err (TooMuch limit)) =
-    (limit ≡ old.limit) × (limit < new.taken) × (new.done ≡ old.done) × (old.taken ≤ old.limit → FillsLimit old given)
+    (limit ≡ old.limit) × (limit < new.taken) × (old.taken ≤ old.limit → FillsLimit old given)
 Answers old new given left (Err Memory) = IsKept old new given
 
 -- the source's count of faults rises at a fault, and else stays
