@@ -7,3 +7,7 @@ pub mod Print
 pub mod Table
 pub mod Bag
 pub mod Pieces
+pub mod Trees
+pub mod Query
+pub mod Bounds
+pub mod QueryExamples
