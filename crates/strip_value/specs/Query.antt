@@ -1,5 +1,5 @@
 -- What a query means: its answer, from whole lists of rows.
-use Rattle.std.specs.Prelude.{ℕ, ℤ, pos, ◌+ℤ◌, ◌-ℤ◌, ◌*ℤ◌, Bool, true, not, ◌&&◌, ◌||◌, ◌==◌, List, [], ◌∷◌, map, filter, get_or, length, Option, None, Some, if◌then◌else◌}
+use Rattle.std.specs.Prelude.{ℕ, ℤ, pos, ◌+ℤ◌, ◌-ℤ◌, ◌*ℤ◌, Bool, true, false, not, ◌&&◌, ◌||◌, ◌==◌, List, [], ◌∷◌, map, filter, get_or, length, Option, None, Some, if◌then◌else◌}
 use Rattle.std.specs.List.{flat_map}
 use Rattle.std.specs.declared.cmp.Ordering.{Ordering}
 use Rattle.std.specs.Ordering.{is_eq, is_lt, is_gt}
@@ -135,7 +135,7 @@ sum_of (n ∷ ns) = n +ℤ sum_of ns
 -- the expression is the group column
 abbrev pub is_column : Place → Calc → Bool
 is_column place (calc.Column entry column) = (place.entry == entry) && (place.column == column)
-is_column place _ = not true
+is_column place _ = false
 
 -- the key's value for the group column that the expression is
 abbrev pub key_value : List Place → List Value → Calc → Value
