@@ -51,3 +51,6 @@ And-is s t = refl
 pub Or-is : (s t : Test) → test.Or s t ≡ Or s t
 unfolding hidden hidden-the_row-Test-0
 Or-is s t = refl
+
+-- for `using(..)` on a function that goes through an expression or a filter
+pub ruleset trees = (Add-is, Sub-is, Mul-is, Not-is, And-is, Or-is)
