@@ -91,7 +91,8 @@ ended_is wanted false found r is want = rw is want
 module _ (columns : List ColumnDef) (found : List ℕ) (key : List (List ℕ)) (at : ℕ) (name : List ℕ) (lt : at < length key) (here : name ≡ get_or key at name) (before : option_map (λ numbers. found ++ numbers) (key_of columns (drop at key)) ≡ key_of columns key) where
   key_opened : option_map (λ numbers. found ++ numbers) (both (number_of 0 columns name) (key_of columns (drop (at + 1) key))) ≡ key_of columns key
   key_opened =
-      let next : drop at key ≡ get_or key at name ∷ drop (at + 1) key = drop-cons key at name lt in
+      let more : suc at ≡ at + 1 = omega arith in
+      let next : drop at key ≡ get_or key at name ∷ drop (at + 1) key = drop-cons key at name lt ∙ ap (λ n. get_or key at name ∷ drop n key) more in
       sym (ap (λ ks. option_map (λ numbers. found ++ numbers) (key_of columns ks)) (next ∙ ap (λ k. k ∷ drop (at + 1) key) (sym here))) ∙ before
 
   pub key_stops : number_of 0 columns name ≡ None → key_of columns key ≡ None

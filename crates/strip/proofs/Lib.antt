@@ -1,1 +1,3 @@
 pub mod FormLaws
+pub mod BaseLaws
+pub mod RunState

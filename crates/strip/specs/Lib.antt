@@ -1,2 +1,7 @@
 pub mod Forms
 pub mod Readings
+pub mod Script
+pub mod Session
+pub mod Stages
+pub mod Runs
+pub mod Examples

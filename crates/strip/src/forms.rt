@@ -1,6 +1,7 @@
 //! Reads what a statement asks for.
-ghost use Rattle.std.specs.Prelude.{◌≡◌, ◌≤◌, length, map, codes, if◌then◌else◌, Some, None, IfOk};
+ghost use Rattle.std.specs.Prelude.{◌≡◌, ◌≤◌, true, length, map, codes, if◌then◌else◌, Some, None, IfOk};
 ghost use Rattle.strip.specs.Forms.{is_mark, after_mark, is_closed, name_of, value_of, negative_of, list_of, kind_of, column_of, columns_of, all_differ, number_of, key_of, is_sound, table_with, table_keyed, table_columned, table_of, put_of, show_of, ready_of, order_of, order_in};
+ghost use Rattle.std.specs.List.{list_any};
 ghost use Rattle.std.specs.Str.{bytes_eq};
 ghost use Rattle.strip_ast.specs.Marks.{mark_text};
 ghost use Rattle.strip.specs.Readings.{IsAfter, IsItem, IsList, AreColumns};
@@ -179,13 +180,22 @@ fn differ(names: &[Name]) -> bool
     ensures { result ≡ all_differ names.now }
 {
     let mut left = names;
-    while let [name, others @ ..] = left {
-        if others.iter().any(|other| other.bytes() == name.bytes()) {
+    for _turn in 0..names.len() {
+        let Some((name, others)) = left.split_first() else {
+            return true;
+        };
+        if stands(others, name.bytes()) {
             return false;
         }
         left = others;
     }
     true
+}
+
+fn stands(names: &[Name], name: &[u8]) -> bool
+    ensures { result ≡ list_any (λ other. bytes_eq other name.now) names.now }
+{
+    names.iter().any(|other| other.bytes() == name)
 }
 
 /// The number of the column of a name.
@@ -230,4 +240,149 @@ fn column_names(alloc: Global, columns: &[ColumnDef]) -> Result<Vec<Name>, Alloc
         names.push(column.name.copy(alloc)?)?;
     }
     Ok(names)
+}
+
+/// The table that was declared, if its columns and its key are sound.
+fn table_of_parts(
+    alloc: Global,
+    name: Name,
+    columns: Vec<ColumnDef>,
+    key: Vec<Name>,
+) -> Result<Order, AllocError>
+    ensures { IfOk result (λ order. order ≡ table_keyed name columns.items (Some key.items)) }
+{
+    if !sound(alloc, columns.as_slice(), key.as_slice())? {
+        return Ok(Order::Other);
+    }
+    let Some(key) = key_numbers(alloc, columns.as_slice(), key.as_slice())? else {
+        return Ok(Order::Other);
+    };
+    Ok(Order::Declare(TableDef {
+        name,
+        columns: Items::from_vec(columns),
+        key: Items::from_vec(key),
+        limit: Some(ROWS),
+        query: None,
+        kept: None,
+        declared: false,
+    }))
+}
+
+fn sound(alloc: Global, columns: &[ColumnDef], key: &[Name]) -> Result<bool, AllocError>
+    ensures value { IfOk result (λ sound. sound ≡ is_sound columns.now key.now) }
+    ensures few { IfOk result (λ sound. sound ≡ true → length columns.now ≤ 16) }
+{
+    if columns.len() > COLUMNS {
+        return Ok(false);
+    }
+    let names = column_names(alloc, columns)?;
+    Ok(differ(names.as_slice()) && differ(key))
+}
+
+fn table_order(alloc: Global, tokens: &[Token]) -> Result<Order, AllocError>
+    ensures { IfOk result (λ order. order ≡ table_of (name_of tokens.now)) }
+{
+    let Some((table, rest)) = name(alloc, tokens)? else {
+        return Ok(Order::Other);
+    };
+    let Some(rest) = after(rest, b"(") else {
+        return Ok(Order::Other);
+    };
+    let Some((columns, rest)) = columns(alloc, rest)? else {
+        return Ok(Order::Other);
+    };
+    let Some(key) = names(alloc, rest)? else {
+        return Ok(Order::Other);
+    };
+    table_of_parts(alloc, table, columns, key)
+}
+
+fn put_order(alloc: Global, tokens: &[Token]) -> Result<Order, AllocError>
+    ensures { IfOk result (λ order. order ≡ put_of (name_of tokens.now)) }
+{
+    let Some((table, rest)) = name(alloc, tokens)? else {
+        return Ok(Order::Other);
+    };
+    let Some(rest) = after(rest, b"(") else {
+        return Ok(Order::Other);
+    };
+    let Some(row) = values(alloc, rest)? else {
+        return Ok(Order::Other);
+    };
+    Ok(Order::Put {
+        table,
+        row: Row::of(row),
+    })
+}
+
+fn show_order(alloc: Global, tokens: &[Token]) -> Result<Order, AllocError>
+    ensures { IfOk result (λ order. order ≡ show_of (name_of tokens.now)) }
+{
+    let Some((table, rest)) = name(alloc, tokens)? else {
+        return Ok(Order::Other);
+    };
+    if rest.is_empty() {
+        Ok(Order::Show { table })
+    } else {
+        Ok(Order::Other)
+    }
+}
+
+fn ready_order(rest: &[Token]) -> Order
+    ensures { result ≡ ready_of rest.now }
+{
+    if rest.is_empty() {
+        Order::Ready
+    } else {
+        Order::Other
+    }
+}
+
+#[tactic(auto, unfolding(crate::specs::Forms::order_of))]
+fn order_of_tokens(alloc: Global, tokens: &[Token]) -> Result<Order, AllocError>
+    ensures { IfOk result (λ order. order ≡ order_of tokens.now) }
+{
+    let Some((first, rest)) = tokens.split_first() else {
+        return Ok(Order::Other);
+    };
+    if is(first, b"put") {
+        return put_order(alloc, rest);
+    }
+    if is(first, b"show") {
+        return show_order(alloc, rest);
+    }
+    if is(first, b"table") {
+        return table_order(alloc, rest);
+    }
+    if is(first, b"ready") {
+        return Ok(ready_order(rest));
+    }
+    Ok(Order::Other)
+}
+
+/// The tokens without their places.
+fn bare(alloc: Global, list: TokenList) -> Result<Vec<Token>, AllocError>
+    ensures { IfOk result (λ tokens. tokens.items ≡ map (λ p. p.token) list) }
+{
+    let list = list.into_vec();
+    let mut tokens = Vec::with_capacity(alloc, list.len())?;
+    for placed in list {
+        tokens.push(placed.token)?;
+    }
+    Ok(tokens)
+}
+
+/// What the bytes of a statement ask for.
+#[tactic(auto, unfolding(crate::specs::Forms::order_in))]
+pub(crate) fn order(alloc: Global, bytes: &[u8]) -> Result<Order, AllocError>
+    ensures { IfOk result (λ order. order ≡ order_in bytes.now) }
+{
+    match tokens(alloc, bytes) {
+        Ok(list) => {
+            let tokens = bare(alloc, list)?;
+            order_of_tokens(alloc, tokens.as_slice())
+        }
+        Err(ParseFail::Fault(_fault)) => Ok(Order::Other),
+        Err(ParseFail::Memory) => Err(AllocError),
+    }
 }
