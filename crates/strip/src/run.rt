@@ -51,13 +51,13 @@ pub fn run_script<S: Source, K: Sink>(
         match piece {
             Piece::End => return Ok(Ended { refused }),
             piece => {
-                let Ok(answer) = take_piece(alloc, limits, stage, &piece) else {
+                let Ok(answer) = take_piece(alloc, limits, stage, piece) else {
                     return Err(RunError::Memory);
                 };
                 let Ok(()) = write_all(out, answer.text.as_slice()) else {
                     return Err(RunError::Write);
                 };
-                refused = refused || answer.refused;
+                refused |= answer.refused;
                 stage = answer.stage;
             }
         }

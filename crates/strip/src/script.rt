@@ -214,11 +214,11 @@ pub(crate) fn take_piece(
     alloc: Global,
     limits: Limits,
     stage: Stage,
-    piece: &Piece,
+    piece: Piece,
 ) -> Result<Answer, AllocError>
     requires steady { IsSteady stage }
     requires bound { limits.bound_rows ≤ 2 ^ 60 }
-    ensures { IfOk result (IsStep (step (stage_of stage) piece.now)) }
+    ensures { IfOk result (IsStep (step (stage_of stage) piece)) }
 {
     match piece {
         Piece::Statement(bytes) => statement(alloc, limits, stage, bytes.as_slice()),
