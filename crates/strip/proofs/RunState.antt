@@ -15,7 +15,8 @@ use Rattle.strip_lines.proofs.ReadingLaws.{coming-fresh, ended-fresh}
 use Rattle.strip_lines.proofs.TextLaws.{IsPiece-from_not_end}
 use Rattle.strip_lines.proofs.RunLaws.{Run, Run-none, Run-piece, Run-kept, Run-end, Run-fault, Run-too_much}
 use Rattle.strip.specs.declared.run.Ended.{Ended}
-use Rattle.strip.specs.Runs.{Moved, RanToEnd, ReadFailed, GaveTooMuch, AreFirst, LackedMemory, WriteFailed, Runs, Counts, run_error}
+use Rattle.strip.specs.declared.run.RunError.TheVariants.{Write, Memory}
+use Rattle.strip.specs.Runs.{AreFirst, Runs, Counts, run_error}
 use Rattle.strip.specs.declared.script.Stage.TheVariants.{Empty}
 use Rattle.strip.specs.declared.script.Answer.{Answer}
 use Rattle.strip.specs.declared.script.Stage.{Stage as CodeStage}
@@ -127,17 +128,22 @@ pub InRun-end : (limit : ℕ) (old new : Reading) (left left1 left2 : Option (Li
     (stage : CodeStage) (refused : Bool)
     → InRun limit old left left1 ins in1 written written1 outs out1 stage refused → Outcome old new left1 left2 in1 in2 (Ok End)
     → (old.taken ≤ old.limit → old.done ≡ true → (new ≡ old) × (left2 ≡ left1))
-    → RanToEnd limit left left2 written written1 (record { refused = refused })
+    → Runs limit left left2 written written1 (Ok (record { refused = refused }))
 unfolding answer is_refused
 InRun-end limit old new left left1 left2 ins in1 in2 written written1 outs out1 stage refused inside outcome again =
     let over = Run-end (fresh limit) old new left left1 left2 in1 in2 inside.answered inside.run outcome again in
     let all : inside.answered ≡ pieces over.given = sym over.all ∙ coming-fresh limit over.given in
     record {
       given = over.given;
-      moved = record { consumed = over.consumed; appended = subst (λ ps. Appends written written1 (replies empty ps)) all inside.appended };
-      at_end = over.at_end;
-      within = omega (arith, over.within);
-      refused = inside.refusing ∙ ap (refuses empty) all;
+      wrote = replies empty inside.answered;
+      consumed = over.consumed;
+      appended = inside.appended;
+      told = record {
+        answered = ap (replies empty) all;
+        refused = inside.refusing ∙ ap (refuses empty) all;
+        at_end = over.at_end;
+        within = omega (arith, over.within);
+      };
     }
 
 -- fewer pieces are first pieces too
@@ -154,13 +160,18 @@ AreFirst-fewer all answered others given left split firsts =
 -- memory was wanting after these were answered
 Run-lacked : (limit : ℕ) (reader : Reading) (left left1 : Option (List ℕ)) (written written1 : Option (List ℕ)) (all answered others : List Piece)
     → Run (fresh limit) reader left left1 all → all ≡ answered ++ others → Appends written written1 (replies empty answered)
-    → LackedMemory limit left left1 written written1
+    → Runs limit left left1 written written1 (Err Memory)
 Run-lacked limit reader left left1 written written1 all answered others run first wrote = record {
   given = run.given;
-  answered = answered;
-  first = AreFirst-fewer all answered others run.given left1 first (Run-first limit reader left left1 all run);
-  moved = record { consumed = run.consumed; appended = wrote };
-  within = Run-within limit reader left left1 all run;
+  wrote = replies empty answered;
+  consumed = run.consumed;
+  appended = wrote;
+  told = record {
+    pieces = answered;
+    first = AreFirst-fewer all answered others run.given left1 first (Run-first limit reader left left1 all run);
+    answered = refl;
+    within = Run-within limit reader left left1 all run;
+  };
 }
 
 -- a read failed
@@ -173,21 +184,24 @@ InRun-failed limit old new left left1 left2 ins in1 in2 written written1 outs ou
     let all : inside.answered ≡ whole_statements stopped.given = sym stopped.whole ∙ ended-fresh limit stopped.given in
     record {
       given = stopped.given;
-      moved = record { consumed = stopped.consumed; appended = subst (λ ps. Appends written written1 (replies empty ps)) all inside.appended };
-      within = omega (arith, stopped.within);
+      wrote = replies empty inside.answered;
+      consumed = stopped.consumed;
+      appended = inside.appended;
+      told = record { answered = ap (replies empty) all; within = omega (arith, stopped.within) };
     }
 InRun-failed limit old new left left1 left2 ins in1 in2 written written1 outs out1 stage refused (read.TooMuch most) inside outcome =
     let passed = Run-too_much (fresh limit) old new left left1 left2 in1 in2 most inside.answered inside.run outcome in
     let all : inside.answered ≡ whole_statements passed.bytes = sym passed.whole ∙ ended-fresh limit passed.bytes in
-    (
-      outcome.answer.0 ∙ inside.run.same_limit,
-      record {
-        bytes = passed.bytes;
-        past = passed.past;
-        moved = record { consumed = passed.consumed; appended = subst (λ ps. Appends written written1 (replies empty ps)) all inside.appended };
-        full = omega (arith, passed.full);
-      },
-    )
+    record {
+      given = passed.bytes ++ passed.past ∷ [];
+      wrote = replies empty inside.answered;
+      consumed = passed.consumed;
+      appended = inside.appended;
+      told = (
+        outcome.answer.0 ∙ inside.run.same_limit,
+        record { bytes = passed.bytes; past = passed.past; split = refl; full = omega (arith, passed.full); answered = ap (replies empty) all },
+      );
+    }
 InRun-failed limit old new left left1 left2 ins in1 in2 written written1 outs out1 stage refused read.Memory inside outcome =
     let run = Run-kept (fresh limit) old new left left1 left2 inside.answered outcome.given inside.run outcome.consumed outcome.counted outcome.same_limit outcome.answer in
     Run-lacked limit new left left2 written written1 inside.answered inside.answered [] run (sym (append-nil inside.answered)) inside.appended
@@ -207,7 +221,7 @@ InRun-failed_counts limit old new left left1 left2 ins in1 in2 written written1 
 pub InRun-lacked : (limit : ℕ) (old new : Reading) (left left1 left2 : Option (List ℕ)) (ins in1 in2 : ℕ) (written written1 : Option (List ℕ)) (outs out1 : ℕ)
     (stage : CodeStage) (refused : Bool) (piece : Piece) → (piece ≡ End → ⊥)
     → InRun limit old left left1 ins in1 written written1 outs out1 stage refused → Outcome old new left1 left2 in1 in2 (Ok piece)
-    → LackedMemory limit left left2 written written1
+    → Runs limit left left2 written written1 (Err Memory)
 InRun-lacked limit old new left left1 left2 ins in1 in2 written written1 outs out1 stage refused piece other inside outcome =
     let run = Run-piece (fresh limit) old new left left1 left2 in1 in2 inside.answered piece (IsPiece-from_not_end piece other) inside.run outcome in
     Run-lacked limit new left left2 written written1 (inside.answered ++ piece ∷ []) inside.answered (piece ∷ []) run refl inside.appended
@@ -217,20 +231,20 @@ pub InRun-cut : {E : Type 0} → (limit : ℕ) (old new : Reading) (left left1 l
     (stage : CodeStage) (refused : Bool) (piece : Piece) (a : Answer) (text : List ℕ) (fault : E) → (piece ≡ End → ⊥)
     → InRun limit old left left1 ins in1 written written1 outs out1 stage refused → Outcome old new left1 left2 in1 in2 (Ok piece)
     → IsStep (step (stage_of stage) piece) a → WritesAll {E = E} written1 written2 text (Err fault) → text ≡ a.text.items
-    → WriteFailed limit left left2 written written2
+    → Runs limit left left2 written written2 (Err Write)
 InRun-cut limit old new left left1 left2 ins in1 in2 written written1 written2 outs out1 stage refused piece a text fault other inside outcome is_step cut whole =
     let run = Run-piece (fresh limit) old new left left1 left2 in1 in2 inside.answered piece (IsPiece-from_not_end piece other) inside.run outcome in
     record {
       given = run.given;
-      answered = inside.answered ++ piece ∷ [];
       wrote = replies empty inside.answered ++ cut.0;
-      rest = cut.1.0;
-      first = Run-first limit new left left2 (inside.answered ++ piece ∷ []) run;
-      moved = record {
-        consumed = run.consumed;
-        appended = Appends-trans written written1 written2 (replies empty inside.answered) cut.0 inside.appended cut.1.1;
+      consumed = run.consumed;
+      appended = Appends-trans written written1 written2 (replies empty inside.answered) cut.0 inside.appended cut.1.1;
+      told = record {
+        pieces = inside.answered ++ piece ∷ [];
+        unwritten = cut.1.0;
+        first = Run-first limit new left left2 (inside.answered ++ piece ∷ []) run;
+        begun = sym (one_more stage inside.answered piece a inside.standing is_step)
+            ∙ ap (λ t. replies empty inside.answered ++ t) (sym whole ∙ cut.1.2) ∙ sym (append_assoc (replies empty inside.answered) cut.0 cut.1.0);
+        within = Run-within limit new left left2 (inside.answered ++ piece ∷ []) run;
       };
-      prefix = sym (one_more stage inside.answered piece a inside.standing is_step)
-          ∙ ap (λ t. replies empty inside.answered ++ t) (sym whole ∙ cut.1.2) ∙ sym (append_assoc (replies empty inside.answered) cut.0 cut.1.0);
-      within = Run-within limit new left left2 (inside.answered ++ piece ∷ []) run;
     }

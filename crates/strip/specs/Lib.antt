@@ -4,4 +4,5 @@ pub mod Script
 pub mod Session
 pub mod Stages
 pub mod Runs
+pub mod Statuses
 pub mod Examples
