@@ -1,6 +1,4 @@
-use crate::{
-    ActError, Entry, History, Id, Reply, Row, TableDef, refusal_text, reply_text,
-};
+use crate::{ActError, Entry, History, Id, Reply, Row, TableDef, refusal_text, reply_text};
 use std::alloc::Global;
 use std::process::Abort;
 use std::str;
@@ -52,12 +50,22 @@ fn is_cause(rt: &impl Abort, alloc: Global, cause: ActError, wanted: &str) -> Re
 fn replies_are_printed(rt: HostRuntime) -> Result<(), Fail> {
     let alloc = rt.alloc();
     is_printed(&rt, alloc, &Reply::Count(0), "count 0\n")?;
-    is_printed(&rt, alloc, &Reply::Count(u64::MAX), "count 18446744073709551615\n")?;
+    is_printed(
+        &rt,
+        alloc,
+        &Reply::Count(u64::MAX),
+        "count 18446744073709551615\n",
+    )?;
     is_printed(&rt, alloc, &Reply::Rows(Items::new(alloc)), "rows 0\n")?;
     let low = row(alloc, -7, b"it's")?;
     let high = row(alloc, 12, b"")?;
     let rows = Items::from_vec(vec![in alloc; low, high]?);
-    is_printed(&rt, alloc, &Reply::Rows(rows), "rows 2\n(-7, 'it''s')\n(12, '')\n")?;
+    is_printed(
+        &rt,
+        alloc,
+        &Reply::Rows(rows),
+        "rows 2\n(-7, 'it''s')\n(12, '')\n",
+    )?;
     Ok(())
 }
 
@@ -68,14 +76,50 @@ fn causes_are_printed(rt: HostRuntime) -> Result<(), Fail> {
     let column = 16;
     let value = -2_147_483_649;
     let key = row(alloc, 3, b"IBM")?;
-    is_cause(&rt, alloc, ActError::NotHeld { table: Id(0) }, "NotHeld quotes")?;
+    is_cause(
+        &rt,
+        alloc,
+        ActError::NotHeld { table: Id(0) },
+        "NotHeld quotes",
+    )?;
     is_cause(&rt, alloc, ActError::ReadOnly { table }, "ReadOnly t")?;
     is_cause(&rt, alloc, ActError::Derived { table }, "Derived t")?;
-    is_cause(&rt, alloc, ActError::KindMismatch { column }, "KindMismatch 16")?;
-    is_cause(&rt, alloc, ActError::OutOfRange { column, value }, "OutOfRange 16 -2147483649")?;
-    is_cause(&rt, alloc, ActError::Duplicate { key }, "Duplicate (3, 'IBM')")?;
-    is_cause(&rt, alloc, ActError::Full { table, limit: 1_048_576 }, "Full t 1048576")?;
-    is_cause(&rt, alloc, ActError::Full { table: Id(2), limit: 1 }, "Full  1")?;
+    is_cause(
+        &rt,
+        alloc,
+        ActError::KindMismatch { column },
+        "KindMismatch 16",
+    )?;
+    is_cause(
+        &rt,
+        alloc,
+        ActError::OutOfRange { column, value },
+        "OutOfRange 16 -2147483649",
+    )?;
+    is_cause(
+        &rt,
+        alloc,
+        ActError::Duplicate { key },
+        "Duplicate (3, 'IBM')",
+    )?;
+    is_cause(
+        &rt,
+        alloc,
+        ActError::Full {
+            table,
+            limit: 1_048_576,
+        },
+        "Full t 1048576",
+    )?;
+    is_cause(
+        &rt,
+        alloc,
+        ActError::Full {
+            table: Id(2),
+            limit: 1,
+        },
+        "Full  1",
+    )?;
     Ok(())
 }
 
