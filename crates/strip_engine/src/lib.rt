@@ -7,6 +7,8 @@ mod engine;
 mod holds;
 mod setup;
 mod steps;
+#[cfg(test)]
+mod tests;
 mod undo;
 
 pub use answers::{ActFault, BeginError, CommitError, Fired, Limits, NoSession};
