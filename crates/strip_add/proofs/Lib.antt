@@ -1,0 +1,2 @@
+pub mod KeyedAsMaps
+pub mod SumLaws

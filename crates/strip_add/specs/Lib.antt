@@ -1,0 +1,2 @@
+-- What contracts of sums cite, and the laws of sums.
+pub mod Parts

@@ -1,0 +1,9 @@
+//! Sums per key: the totals of a list of rows, and totals added to a derived table.
+#![tactic(auto)]
+
+mod folding;
+mod sums;
+
+pub use folding::{Totals, fold};
+pub use strip_table::Table;
+pub use strip_value::{Row, RowList, TableDef, Value};
