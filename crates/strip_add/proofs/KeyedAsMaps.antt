@@ -7,6 +7,7 @@ use Rattle.std.specs.Ordering.{is_eq}
 use Rattle.strip_value.specs.declared.values.Value.{Value}
 use Rattle.strip_value.specs.Order.{row_cmp}
 use Rattle.strip_value.specs.Table.{key_of, has_key, IsBelow, Rises, row_at, without, placed, put_between, with_row, put_back, put_if}
+use Rattle.strip_add.specs.Parts.{chosen, Changed}
 use Rattle.strip_value.proofs.Orders.{row_cmp_equal}
 use Rattle.strip_value.proofs.KeyedLaws.{flipped, row_cmp_itself, against, Below, Above, above_after, above_found, puts_there, removes_there, row_at_put}
 
@@ -150,21 +151,11 @@ sets_back columns old row was rises e =
 pub sets_same : (columns : List ℕ) (rows : List (List Value)) (key : List Value) → Rises columns rows → Sets columns rows rows key (row_at columns rows key)
 sets_same columns rows key rises = record { rises = rises; here = refl; others = λ k ne. refl }
 
--- what a named row makes of its key, or what was there
-abbrev pub chosen : (List Value → Option (List Value)) → Option (List Value) → Option (List Value) → Option (List Value)
-chosen f (Some row) was = f row
-chosen f None was = was
-
--- the rows after changes at the keys of the named rows
-pub record Changed (columns : List ℕ) (f : List Value → Option (List Value)) (before now named : List (List Value)) : Type 0 where
-  pub rises : Rises columns now
-  pub each : (key : List Value) → row_at columns now key ≡ chosen f (row_at columns named key) (row_at columns before key)
-
 module _ (columns : List ℕ) (f : List Value → Option (List Value)) (before : List (List Value)) where
   pub changed_none : Rises columns before → Changed columns f before before []
   changed_none rises = record { rises = rises; each = λ key. refl }
 
-  named_last : (named : List (List Value)) (row key : List Value) → has_key columns key row ≡ true → row_at columns named key ≡ None → row_at columns (named ++ row ∷ []) key ≡ Some row
+  pub named_last : (named : List (List Value)) (row key : List Value) → has_key columns key row ≡ true → row_at columns named key ≡ None → row_at columns (named ++ row ∷ []) key ≡ Some row
   named_last [] row key h none = at_first columns row [] key h
   named_last (first ∷ named) row key h none = by_test (has_key columns key first) refl (named_last named row key h)
     where
@@ -237,3 +228,15 @@ changed_again columns f g before between now named first second = record {
     by_row : (key : List Value) (o : Option (List Value)) → row_at columns between key ≡ chosen f o (row_at columns before key) → chosen g o (row_at columns between key) ≡ chosen g o (row_at columns before key)
     by_row key (Some row) e = refl
     by_row key None e = e
+
+-- changes that say the same of each named row
+pub changed_as : (columns : List ℕ) (f g : List Value → Option (List Value)) (before now named : List (List Value)) → Changed columns f before now named → ((row : List Value) → row_at columns named (key_of columns row) ≡ Some row → f row ≡ g row) → Changed columns g before now named
+changed_as columns f g before now named changed same = record {
+  rises = changed.rises;
+  each = λ key. changed.each key ∙ by_row key (row_at columns named key) refl;
+}
+  where
+    by_row : (key : List Value) (o : Option (List Value)) → row_at columns named key ≡ o → chosen f o (row_at columns before key) ≡ chosen g o (row_at columns before key)
+    by_row key None e = refl
+    by_row key (Some row) e =
+        same row (ap (row_at columns named) (row_has_key columns named key row e) ∙ e)

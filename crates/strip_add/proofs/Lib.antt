@@ -1,2 +1,3 @@
 pub mod KeyedAsMaps
 pub mod SumLaws
+pub mod ApplyLaws

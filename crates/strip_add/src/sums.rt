@@ -11,7 +11,7 @@ use strip_table::Table;
 use strip_value::{Duplicate, Row, Value};
 
 /// The number of a total; a text counts as 0.
-fn number(value: &Value) -> i128
+pub(crate) fn number(value: &Value) -> i128
     ensures { result ≡ number_of value.now }
 {
     match value {
@@ -82,7 +82,7 @@ fn push_sums(into: &mut Vec<Value>, old: &[Value], more: &[Value]) -> Result<(),
 }
 
 /// What stands behind the key of a row that may be there.
-fn behind_key<'a>(row: Option<&'a Row>, width: usize) -> &'a [Value]
+pub(crate) fn behind_key<'a>(row: Option<&'a Row>, width: usize) -> &'a [Value]
     ensures { result.now ≡ behind width (option_copied row.entry) }
 {
     match row {
