@@ -1,5 +1,5 @@
 -- Adding totals to a table: what each step does, and that all steps together give the rows that adding gives.
-use Rattle.std.proofs.Common.{◌≡◌, ℕ, suc, zero, ◌+◌, ◌-◌, ◌^◌, ◌<◌, ◌≤◌, Bool, true, false, not, cond, List, [], ◌∷◌, ◌++◌, length, map, take, drop, get_or, set, Option, Some, None, refl, sym, ap, ◌∙◌, subst, arith, ◌⊎◌, inl, inr}
+use Rattle.std.proofs.Common.{◌≡◌, ℕ, suc, zero, ◌+◌, ◌<◌, ◌≤◌, Bool, true, false, not, cond, List, [], ◌∷◌, ◌++◌, length, map, take, drop, get_or, set, Option, Some, None, refl, sym, ap, ◌∙◌, subst, arith, ◌⊎◌, inl, inr}
 use Rattle.std.specs.List.{AllByRecursion}
 use Rattle.std.proofs.lemmas.List.{take_more, length-map, length-set, get_or-set_same, get_or-set_other}
 use Rattle.std.proofs.Math.Seq.{split_at}
@@ -8,11 +8,11 @@ use Rattle.strip_value.specs.declared.tables.TableDef.{TableDef}
 use Rattle.strip_value.specs.Kinds.{FitsColumns}
 use Rattle.strip_value.specs.Table.{Keyed, IsTable, key_of, has_key, Rises, row_at, with_row, without, put_back}
 use Rattle.strip_value.proofs.Lists.{all_at}
-use Rattle.strip_value.proofs.KeyedLaws.{Below, below_found, find_all}
-use Rattle.strip_meaning.specs.Sums.{IsDerived, totals_of, totals_at, any_total, has_total, summed, settled, applied, IsUnder}
+use Rattle.strip_value.proofs.KeyedLaws.{below_found, find_all}
+use Rattle.strip_meaning.specs.Sums.{IsDerived, has_total, summed, settled, applied}
 use Rattle.strip_add.specs.Parts.{chosen, Changed, sum_at, swept_row, swept_at, is_zero_at, swept, PutsSlot, TakesBack, IsUnderAfter}
-use Rattle.strip_add.proofs.KeyedAsMaps.{has_own, none_below, row_has_key, same_rows, Sets, sets_row, sets_none, sets_back, sets_same, named_last, changed_none, changed_more, changed_less, changed_front, unchanged, same_changes, changed_again, changed_as}
-use Rattle.strip_add.proofs.SumLaws.{key_at_front, fits_length, SummedThere, summed_there}
+use Rattle.strip_add.proofs.KeyedAsMaps.{has_own, none_below, row_has_key, Sets, sets_row, sets_none, sets_back, sets_same, named_last, changed_none, changed_more, changed_less, changed_front, unchanged, same_changes, changed_again, changed_as}
+use Rattle.strip_add.proofs.SumLaws.{key_at_front, fits_length, summed_there}
 
 -- a key isn't among those before its place
 pub new_key : (columns : List ℕ) (rows : List (List Value)) (i : ℕ) (row : List Value) → Rises columns rows → i < length rows → row ≡ get_or rows i row → row_at columns (take i rows) (key_of columns row) ≡ None
@@ -41,13 +41,13 @@ applied_changed def table (row ∷ totals) derived rises fits kinds =
     let there = summed_there def table row derived fits kinds.0 in
     let sets = settled_sets def (applied def table totals) (summed def table row) rest.rises in
     changed_front def.key (kept_sum def table) table (applied def table totals) (settled def (applied def table totals) (summed def table row)) totals row rest
-      (subst (λ k. Sets def.key (applied def table totals) (settled def (applied def table totals) (summed def table row)) k (kept_sum def table row)) there.key sets)
+    (subst (λ k. Sets def.key (applied def table totals) (settled def (applied def table totals) (summed def table row)) k (kept_sum def table row)) there.key sets)
 
 -- the rows of sums are put, and the rows of zeros are taken out: that is adding
 pub applied_by_steps : (def : TableDef) (table between now totals : List (List Value)) → IsDerived def → IsTable def table → AllByRecursion (FitsColumns def.columns) totals → Changed def.key (sum_at def table) table between totals → Changed def.key (swept_at def between) between now totals → now ≡ applied def table totals
 applied_by_steps def table between now totals derived is_table kinds first second =
     let same = changed_as def.key (swept_at def between) (kept_sum def table) between now totals second (λ row named.
-        ap (swept_row def) (first.each (key_of def.key row) ∙ ap (λ o. chosen (sum_at def table) o (row_at def.key table (key_of def.key row))) named)) in
+    ap (swept_row def) (first.each (key_of def.key row) ∙ ap (λ o. chosen (sum_at def table) o (row_at def.key table (key_of def.key row))) named)) in
     let both = changed_again def.key (sum_at def table) (kept_sum def table) table between now totals first same in
     same_changes def.key (kept_sum def table) table now (applied def table totals) totals both (applied_changed def table totals derived is_table.rises is_table.fits kinds)
 
@@ -67,10 +67,10 @@ pub swept_more : (def : TableDef) (before now totals : List (List Value)) (i : �
 swept_more def before now totals i row rises lt here changed =
     let none = new_key def.key totals i row rises lt here in
     let same : row_at def.key now (key_of def.key row) ≡ row_at def.key before (key_of def.key row) =
-        changed.each (key_of def.key row) ∙ ap (λ o. chosen (swept_at def before) o (row_at def.key before (key_of def.key row))) none in
+    changed.each (key_of def.key row) ∙ ap (λ o. chosen (swept_at def before) o (row_at def.key before (key_of def.key row))) none in
     let sets = subst (λ o. Sets def.key now (swept def now (key_of def.key row)) (key_of def.key row) (swept_row def o)) same (swept_sets def now (key_of def.key row) changed.rises) in
     subst (Changed def.key (swept_at def before) before (swept def now (key_of def.key row))) (sym (one_more_row totals i row lt here))
-      (changed_more def.key (swept_at def before) before now (swept def now (key_of def.key row)) (take i totals) row none changed sets)
+    (changed_more def.key (swept_at def before) before now (swept def now (key_of def.key row)) (take i totals) row none changed sets)
 
 -- the rows of the first i totals are put; the slots before i have the rows that they replaced, and those from
 -- `from` on the rows that are to be put
@@ -126,7 +126,7 @@ pub put_more : (def : TableDef) (before totals : List (List Value)) (i : ℕ) (t
 put_more def before totals i table new slots d left derived is_table rise kinds p lt puts = record {
   same_def = ap (λ (t : Keyed). t.def) put.0 ∙ p.same_def;
   changed = subst (Changed def.key (sum_at def before) before new.rows) (sym (one_more_row totals i (get_or totals i []) lt (any_default totals i [] (get_or totals i []) lt)))
-    (changed_more def.key (sum_at def before) before table.rows new.rows (take i totals) (get_or totals i []) none p.changed sets);
+      (changed_more def.key (sum_at def before) before table.rows new.rows (take i totals) (get_or totals i []) none p.changed sets);
   long = length-set slots i left ∙ p.long;
   done = λ k e r less. by_place k e r (here_or_below k i less);
   left = λ k e r le less. get_or-set_other slots i k left e (omega arith) ∙ p.left k e r (omega arith) less;
@@ -146,7 +146,7 @@ put_more def before totals i table new slots d left derived is_table rise kinds 
 
     sets : Sets def.key table.rows new.rows (key_of def.key (get_or totals i [])) (sum_at def before (get_or totals i []))
     sets = subst (λ rs. Sets def.key table.rows rs (key_of def.key (get_or totals i [])) (sum_at def before (get_or totals i []))) (sym rows)
-      (subst (λ k. Sets def.key table.rows (with_row def.key table.rows (summed def before (get_or totals i []))) k (sum_at def before (get_or totals i []))) key
+        (subst (λ k. Sets def.key table.rows (with_row def.key table.rows (summed def before (get_or totals i []))) k (sum_at def before (get_or totals i []))) key
         (sets_row def.key table.rows (summed def before (get_or totals i [])) p.changed.rises))
 
     replaced : left ≡ row_at def.key before (key_of def.key (get_or totals i []))
@@ -217,16 +217,16 @@ put_less def before totals i j from b table new slots d x row derived is_table r
         let there = sets_back def.key table.rows was (summed def before row) changed.rises (ap (row_at def.key table.rows) has ∙ stands) in
         let rows : new.rows ≡ put_back def.key table.rows was = ap (λ (t : Keyed). t.rows) took ∙ ap (λ (t : TableDef). put_back t.key table.rows was) p.same_def in
         back (ap (λ (t : Keyed). t.def) took ∙ p.same_def)
-          (subst (λ o. Sets def.key table.rows new.rows (key_of def.key row) o) (sym e)
-            (subst (λ k. Sets def.key table.rows new.rows k (Some was)) has
-              (subst (λ rs. Sets def.key table.rows rs (key_of def.key was) (Some was)) (sym rows) there)))
+        (subst (λ o. Sets def.key table.rows new.rows (key_of def.key row) o) (sym e)
+        (subst (λ k. Sets def.key table.rows new.rows k (Some was)) has
+        (subst (λ rs. Sets def.key table.rows rs (key_of def.key was) (Some was)) (sym rows) there)))
     by_row None e =
         let took = subst (λ o. TakesBack table row o new) (slot ∙ e) takes in
         let rows : new.rows ≡ without def.key table.rows (key_of def.key row) =
-            ap (λ (t : Keyed). t.rows) took ∙ ap (λ (t : TableDef). without t.key table.rows (take (length t.key) row)) p.same_def ∙ ap (without def.key table.rows) long_key in
+        ap (λ (t : Keyed). t.rows) took ∙ ap (λ (t : TableDef). without t.key table.rows (take (length t.key) row)) p.same_def ∙ ap (without def.key table.rows) long_key in
         back (ap (λ (t : Keyed). t.def) took ∙ p.same_def)
-          (subst (λ o. Sets def.key table.rows new.rows (key_of def.key row) o) (sym e)
-            (subst (λ rs. Sets def.key table.rows rs (key_of def.key row) None) (sym rows) (sets_none def.key table.rows (key_of def.key row) changed.rises)))
+        (subst (λ o. Sets def.key table.rows new.rows (key_of def.key row) o) (sym e)
+        (subst (λ rs. Sets def.key table.rows rs (key_of def.key row) None) (sym rows) (sets_none def.key table.rows (key_of def.key row) changed.rises)))
 
 -- all is taken back
 pub put_again : (before table : Keyed) (totals : List (List Value)) (i from : ℕ) (slots : List (Option (List Value))) → IsTable before.def before.rows → i ≡ 0 → PutSoFar before.def before.rows totals i from table slots → table ≡ before
@@ -248,8 +248,7 @@ zero_gone def rows row key width o b derived fits width_is key_is o_is b_is =
 
 pub sweep_step : (def : TableDef) (before totals : List (List Value)) (i : ℕ) (row : List Value) (table new : Keyed) → Rises def.key totals → i < length totals → row ≡ get_or totals i row → table.def ≡ def → Changed def.key (swept_at def before) before table.rows (take i totals) → new ≡ record table { rows = swept table.def table.rows (key_of table.def.key row) } → (new.def ≡ def) × Changed def.key (swept_at def before) before new.rows (take (i + 1) totals)
 sweep_step def before totals i row table new rise lt here same changed is =
-    let rows : new.rows ≡ swept def table.rows (key_of def.key row) = ap (λ (t : Keyed). t.rows) is ∙ ap (λ (d : TableDef). swept d table.rows (key_of d.key row)) same in
-    (
+    let rows : new.rows ≡ swept def table.rows (key_of def.key row) = ap (λ (t : Keyed). t.rows) is ∙ ap (λ (d : TableDef). swept d table.rows (key_of d.key row)) same in (
       ap (λ (t : Keyed). t.def) is ∙ same,
       subst (λ rs. Changed def.key (swept_at def before) before rs (take (i + 1) totals)) (sym rows) (swept_more def before table.rows totals i row rise lt here changed),
     )

@@ -1,15 +1,14 @@
 -- Rising rows as maps from keys to rows: two with the same row for each key are one, and what a change at one key does.
-use Rattle.std.proofs.Common.{◌≡◌, ℕ, Bool, true, false, not, cond, List, [], ◌∷◌, ◌++◌, length, filter, find, Option, Some, None, is_some, refl, sym, ap, ◌∙◌, subst}
-use Rattle.std.specs.List.{AllByRecursion}
+use Rattle.std.proofs.Common.{◌≡◌, ℕ, Bool, true, false, not, cond, List, [], ◌∷◌, ◌++◌, Option, Some, None, refl, sym, ap, ◌∙◌, subst}
 use Rattle.std.specs.declared.cmp.Ordering.{Ordering}
 use Rattle.std.specs.declared.cmp.Ordering.TheVariants.{Less, Equal, Greater}
 use Rattle.std.specs.Ordering.{is_eq}
 use Rattle.strip_value.specs.declared.values.Value.{Value}
 use Rattle.strip_value.specs.Order.{row_cmp}
-use Rattle.strip_value.specs.Table.{key_of, has_key, IsBelow, Rises, row_at, without, placed, put_between, with_row, put_back, put_if}
+use Rattle.strip_value.specs.Table.{key_of, has_key, Rises, row_at, without, placed, put_between, with_row, put_back, put_if}
 use Rattle.strip_add.specs.Parts.{chosen, Changed}
 use Rattle.strip_value.proofs.Orders.{row_cmp_equal}
-use Rattle.strip_value.proofs.KeyedLaws.{flipped, row_cmp_itself, against, Below, Above, above_after, above_found, puts_there, removes_there, row_at_put}
+use Rattle.strip_value.proofs.KeyedLaws.{flipped, row_cmp_itself, Below, Above, above_after, above_found, puts_there, removes_there, row_at_put}
 
 equal_of : (o : Ordering) → is_eq o ≡ true → o ≡ Equal
 equal_of Less e = cc

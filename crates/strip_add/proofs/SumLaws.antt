@@ -1,23 +1,22 @@
 -- Sums per key: their shape, their bounds, and what one row more makes of them.
-use Rattle.std.proofs.Common.{◌≡◌, ℕ, suc, zero, ◌+◌, ◌-◌, ◌*◌, ◌^◌, ◌<◌, ◌≤◌, Bool, true, false, not, ◌||◌, cond, List, [], ◌∷◌, ◌++◌, length, map, take, drop, get_or, replicate, Option, Some, None, is_some, refl, sym, ap, ◌∙◌, subst, arith, append_assoc, length-take, length-drop, length-append}
-use Rattle.std.specs.Prelude.{Result, Ok, Err, IfOk, ℤ, pos, neg_ℤ, ◌+ℤ◌, ◌<ℤ◌, ◌≤ℤ◌}
+use Rattle.std.proofs.Common.{◌≡◌, ℕ, suc, zero, ◌+◌, ◌-◌, ◌*◌, ◌^◌, ◌<◌, ◌≤◌, Bool, true, false, cond, List, [], ◌∷◌, ◌++◌, length, map, take, drop, get_or, replicate, Option, Some, None, is_some, refl, sym, ap, ◌∙◌, subst, arith, append_assoc, length-take, length-drop, length-append}
+use Rattle.std.specs.Prelude.{Result, Ok, Err, IfOk, ℤ, pos, ◌+ℤ◌}
 use Rattle.std.proofs.lemmas.Int.{ints}
 use Rattle.std.specs.List.{AllByRecursion}
-use Rattle.std.specs.Ordering.{is_eq}
 use Rattle.std.proofs.Math.Seq.{drop-cons, take-append_seam, drop-append_seam}
 use Rattle.std.proofs.lemmas.List.{length-map, length-replicate, map-append, take_all, take_more}
 use Rattle.strip_value.specs.declared.kinds.Kind.TheVariants as kind
 use Rattle.strip_value.specs.declared.values.Value.{Value}
-use Rattle.strip_value.specs.declared.values.Value.TheVariants.{Int, Text}
+use Rattle.strip_value.specs.declared.values.Value.TheVariants.{Int}
 use Rattle.strip_value.specs.declared.tables.ColumnDef.{ColumnDef}
 use Rattle.strip_value.specs.declared.tables.TableDef.{TableDef}
 use Rattle.strip_value.specs.Kinds.{Fits, FitsColumns}
-use Rattle.strip_value.specs.Table.{Keyed, column_of, key_of, has_key, Rises, row_at, with_row, without}
-use Rattle.strip_value.proofs.Lists.{all_append, all_weaker}
+use Rattle.strip_value.specs.Table.{Keyed, column_of, key_of, has_key, Rises, row_at, with_row}
+use Rattle.strip_value.proofs.Lists.{all_weaker}
 use Rattle.strip_value.proofs.KeyedLaws.{puts_there, find_all}
-use Rattle.strip_meaning.specs.Sums.{CountsUp, IsDerived, as_derived, number_of, totals_of, row_of, plus, zeros, sums_at, keys_with_sums, folded, totals_or, totals_at, any_total, has_total, summed, settled, applied, IsUnder}
+use Rattle.strip_meaning.specs.Sums.{CountsUp, IsDerived, number_of, totals_of, row_of, plus, zeros, sums_at, keys_with_sums, folded, totals_or, totals_at, summed, IsUnder, IsUpTo}
 use Rattle.strip_add.specs.Parts.{numbers, behind, first_number}
-use Rattle.strip_add.proofs.KeyedAsMaps.{key_is, has_own, at_first, past_first, row_has_key, same_rows, Sets, sets_row, sets_none, not_last}
+use Rattle.strip_add.proofs.KeyedAsMaps.{key_is, has_own, at_first, past_first, same_rows, Sets, sets_row, not_last}
 
 -- adding place by place
 pub plus_none : (one : List ℤ) → plus one [] ≡ one
@@ -152,8 +151,8 @@ summed_there def rows row derived all fits =
       totals = totals_of_row def key sums long;
       fits = λ under.
           subst (λ k. FitsColumns def.columns (k ++ map Int sums)) (sym (key_at_front def.key row derived.key_first (let within = derived.key_within in omega arith)))
-            (fits_put (length def.key) def.columns row (map Int sums) fits
-              (fits_big (drop (length def.key) def.columns) sums derived.totals (omega (arith, length-drop (length def.key) def.columns)) under));
+          (fits_put (length def.key) def.columns row (map Int sums) fits
+          (fits_big (drop (length def.key) def.columns) sums derived.totals (omega (arith, length-drop (length def.key) def.columns)) under));
     }
 
 -- what the code adds, where the table has no row nothing, is what the table's totals say
@@ -215,9 +214,6 @@ module _ (def : TableDef) where
           ap (λ b. one_more b row (sums_at def rows key)) h ∙ rest (sym (past_first def.key row rows key h) ∙ e)
 
 -- bounds: so many rows of totals under a bound have sums of at most so many times the bound
-abbrev pub IsUpTo : ℕ → ℤ → Type 0
-IsUpTo most n = (neg_ℤ (pos most) ≤ℤ n) × (n ≤ℤ pos most)
-
 up_to_plus : (m n : ℕ) (one two : List ℤ) → AllByRecursion (IsUpTo m) one → AllByRecursion (IsUpTo n) two → AllByRecursion (IsUpTo (m + n)) (plus one two)
 up_to_plus m n [] two first second = all_weaker (IsUpTo n) (IsUpTo (m + n)) (λ x up. (omega (arith, ints, up.0), omega (arith, ints, up.1))) two second
 up_to_plus m n (a ∷ one) [] first second = all_weaker (IsUpTo m) (IsUpTo (m + n)) (λ x up. (omega (arith, ints, up.0), omega (arith, ints, up.1))) (a ∷ one) first
@@ -290,8 +286,8 @@ sum_parts def rows row key totals old width o derived all fits under width_is ke
     let old_is_behind : old ≡ behind (length def.key) (row_at def.key rows (key_of def.key row)) = old_is ∙ ap (λ n. behind n o) width_is ∙ ap (behind (length def.key)) there in
     let totals_are : numbers totals ≡ totals_of def row = ap numbers totals_is ∙ ap (λ n. numbers (drop n row)) width_is in
     let sums : plus (numbers old) (numbers totals) ≡ plus (totals_at def rows (key_of def.key row)) (totals_of def row) =
-        ap (λ xs. plus (numbers xs) (numbers totals)) old_is_behind ∙ ap (plus (numbers (behind (length def.key) (row_at def.key rows (key_of def.key row))))) totals_are
-        ∙ behind_plus def (row_at def.key rows (key_of def.key row)) (totals_of def row) (length_totals def row fits) in
+    ap (λ xs. plus (numbers xs) (numbers totals)) old_is_behind ∙ ap (plus (numbers (behind (length def.key) (row_at def.key rows (key_of def.key row))))) totals_are
+    ∙ behind_plus def (row_at def.key rows (key_of def.key row)) (totals_of def row) (length_totals def row fits) in
     record {
       lengths =
           let short = length_behind def rows (key_of def.key row) all in
@@ -372,8 +368,8 @@ folded_more def sums_def sums seen row derived f fits under = record {
         let here = has_own def.key row key refl in
         let old = totals_so_far def sums_def sums seen key (length_key def.key row) f in
         let sum : plus (totals_at def sums key) (totals_of def row) ≡ sums_at def (seen ++ row ∷ []) key =
-            ap (λ t. plus t (totals_of def row)) old ∙ plus_comm (sums_at def seen key) (totals_of def row)
-            ∙ sym (sums_last def seen row key ∙ ap (λ b. one_more def b row (sums_at def seen key)) here) in
+        ap (λ t. plus t (totals_of def row)) old ∙ plus_comm (sums_at def seen key) (totals_of def row)
+        ∙ sym (sums_last def seen row key ∙ ap (λ b. one_more def b row (sums_at def seen key)) here) in
         sets.here ∙ ap (λ s. Some (row_of key s)) sum
         ∙ sym (ap (λ b. cond b (Some (row_of key (sums_at def (seen ++ row ∷ []) key))) None) (some_last def.key seen row key here))
 
@@ -440,8 +436,8 @@ fold_needs into sums_def sums seen row f few under here =
 pub fold_step : (into sums_def : TableDef) (sums seen : List (List Value)) (row : List Value) (new : Keyed) → IsDerived into → FoldedSoFar into sums_def sums seen → length seen < 2 ^ 62 → AllUnder into (2 ^ 63) seen → FitsColumns into.columns row → AllByRecursion (IsUnder (2 ^ 63)) (totals_of into row) → new ≡ record { def = sums_def; rows = with_row sums_def.key sums (summed sums_def sums row) } → FoldedSoFar into new.def new.rows (seen ++ row ∷ [])
 fold_step into sums_def sums seen row new derived f few under fits here is =
     subst (λ (t : Keyed). FoldedSoFar into t.def t.rows (seen ++ row ∷ [])) (sym is)
-      (subst (λ (d : TableDef). FoldedSoFar into sums_def (with_row d.key sums (summed d sums row)) (seen ++ row ∷ [])) (sym f.same_def)
-        (folded_more into sums_def sums seen row derived f fits (sums_fit into sums_def sums seen row f few under here)))
+    (subst (λ (d : TableDef). FoldedSoFar into sums_def (with_row d.key sums (summed d sums row)) (seen ++ row ∷ [])) (sym f.same_def)
+    (folded_more into sums_def sums seen row derived f fits (sums_fit into sums_def sums seen row f few under here)))
 
 pub ok_weaker : {A E : Type 0} (r : Result A E) (P Q : A → Type 0) → IfOk r P → ((x : A) → P x → Q x) → IfOk r Q
 ok_weaker (Ok x) P Q p f = f x p

@@ -1,5 +1,5 @@
 -- What the steps of adding say.
-use Rattle.std.specs.Prelude.{◌≡◌, ℕ, ◌^◌, ℤ, pos, Bool, false, not, cond, List, [], ◌∷◌, map, take, drop, length, Option, Some, None, if◌then◌else◌}
+use Rattle.std.specs.Prelude.{◌≡◌, ℕ, ◌^◌, ℤ, pos, Bool, false, not, List, [], ◌∷◌, map, take, drop, length, Option, Some, None, if◌then◌else◌}
 use Rattle.std.specs.List.{AllByRecursion}
 use Rattle.strip_value.specs.declared.values.Value.{Value}
 use Rattle.strip_value.specs.declared.tables.TableDef.{TableDef}

@@ -51,11 +51,7 @@ fn sums_of(alloc: Global, table: &Table, totals: &[Row]) -> Result<Vec<Option<Ro
 
 /// Puts the row of each slot, and leaves in the slot the row that it replaced. Where one can't be put,
 /// those before it are taken back, the last one first.
-fn put_all(
-    table: &mut Table,
-    totals: &[Row],
-    slots: &mut [Option<Row>],
-) -> Result<(), AllocError>
+fn put_all(table: &mut Table, totals: &[Row], slots: &mut [Option<Row>]) -> Result<(), AllocError>
     requires table { IsTable table.old.def table.old.rows }
     requires derived { IsDerived table.old.def }
     requires rise { Rises table.old.def.key totals.now }

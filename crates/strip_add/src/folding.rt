@@ -35,12 +35,7 @@ pub fn fold(
     rows_of(alloc, &sums)
 }
 
-fn fold_row(
-    alloc: Global,
-    sums: &mut Table,
-    row: &Row,
-    from: &[u32],
-) -> Result<(), AllocError>
+fn fold_row(alloc: Global, sums: &mut Table, row: &Row, from: &[u32]) -> Result<(), AllocError>
     requires derived { IsDerived sums.old.def }
     requires rows { AllByRecursion (FitsColumns sums.old.def.columns) sums.old.rows }
     requires fits { FitsColumns sums.old.def.columns (as_derived from.now row.now) }

@@ -3,6 +3,7 @@
 
 mod applying;
 mod folding;
+pub mod laws;
 mod sums;
 
 pub use applying::apply;

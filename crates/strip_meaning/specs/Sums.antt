@@ -1,5 +1,5 @@
 -- Sums of totals per key, and a derived table after sums are added.
-use Rattle.std.specs.Prelude.{◌≡◌, ℕ, ◌+◌, ◌-◌, ◌^◌, ◌≤◌, Bool, not, ℤ, pos, neg_ℤ, ◌+ℤ◌, ◌<ℤ◌, List, [], ◌∷◌, ◌++◌, map, drop, length, replicate, Option, Some, None, if◌then◌else◌}
+use Rattle.std.specs.Prelude.{◌≡◌, ℕ, ◌+◌, ◌-◌, ◌^◌, ◌≤◌, Bool, not, ℤ, pos, neg_ℤ, ◌+ℤ◌, ◌<ℤ◌, ◌≤ℤ◌, List, [], ◌∷◌, ◌++◌, map, drop, length, replicate, Option, Some, None, is_some, if◌then◌else◌}
 use Rattle.std.specs.List.{AllByRecursion, list_any}
 use Rattle.std.specs.Ordering.{int_eq}
 use Rattle.strip_value.specs.declared.kinds.Kind.TheVariants as kind
@@ -101,3 +101,11 @@ applied def table (row ∷ totals) = settled def (applied def table totals) (sum
 -- a number is strictly between -bound and bound
 abbrev pub IsUnder : ℕ → ℤ → Type 0
 IsUnder bound n = (neg_ℤ (pos bound) <ℤ n) × (n <ℤ pos bound)
+
+-- a number is at most so great, or so far below zero
+abbrev pub IsUpTo : ℕ → ℤ → Type 0
+IsUpTo most n = (neg_ℤ (pos most) ≤ℤ n) × (n ≤ℤ pos most)
+
+-- a table has a row of a key exactly where one of the key's totals isn't zero
+abbrev pub IsShown : TableDef → List (List Value) → Type 0
+IsShown def rows = (key : List Value) → is_some (row_at def.key rows key) ≡ any_total (totals_at def rows key)

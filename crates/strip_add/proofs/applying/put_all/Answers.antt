@@ -1,6 +1,5 @@
-use Rattle.std.proofs.Common.{◌≡◌, ◌+◌, ◌-◌, ◌<◌, length, arith, refl, ap, ◌∙◌, sym}
+use Rattle.std.proofs.Common.{◌+◌, ◌-◌, length, arith, refl}
 use Rattle.strip_add.proofs.ApplyLaws.{slot_fits, put_none, put_more, put_failed, back_fits, put_less, put_again, row_long}
-use Rattle.strip_add.proofs.SumLaws.{fits_length}
 use Rattle.strip_add.proofs.applying.put_all.Goals as goal
 
 pub loop-at-init : goal.loop-at-init

@@ -1,4 +1,4 @@
-use Rattle.std.proofs.Common.{◌≡◌, length, arith, refl, ap, ◌∙◌, sym, List, take, true, false}
+use Rattle.std.proofs.Common.{length, arith, ap, ◌∙◌, sym, List, take, true, false}
 use Rattle.strip_value.specs.declared.values.Value.{Value}
 use Rattle.strip_value.specs.declared.tables.TableDef.{TableDef}
 use Rattle.strip_add.proofs.ApplyLaws.{zero_gone}

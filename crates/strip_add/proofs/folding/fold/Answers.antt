@@ -1,4 +1,4 @@
-use Rattle.std.proofs.Common.{◌≡◌, ◌+◌, ◌<◌, ◌≤◌, ◌^◌, List, length, map, take, get_or, arith, sym, subst, ap, ◌∙◌}
+use Rattle.std.proofs.Common.{◌≡◌, ◌<◌, ◌≤◌, ◌^◌, List, length, map, take, get_or, arith, sym, subst, ap, ◌∙◌}
 use Rattle.std.specs.List.{AllByRecursion}
 use Rattle.strip_value.specs.declared.values.Value.{Value}
 use Rattle.strip_value.specs.Kinds.{FitsColumns}
@@ -39,7 +39,7 @@ loop-row-preserved c =
     let here = subst (λ (r : List Value). AllByRecursion (IsUnder (2 ^ 63)) (totals_of into (f r))) (sym is) (all_at (λ row. AllByRecursion (IsUnder (2 ^ 63)) (totals_of into (f row))) rows i row c.requires.small lt) in
     let fits = subst (λ (r : List Value). FitsColumns into.columns (f r)) (sym is) (all_at (λ row. FitsColumns into.columns (f row)) rows i row c.requires.kinds lt) in
     subst (FoldedSoFar into c.fold_row.new.sums.def c.fold_row.new.sums.rows) (sym (seen_more f rows i row lt is))
-      (fold_step into c.loop-row.sums.def c.loop-row.sums.rows (map f (take i rows)) (f row) c.fold_row.new.sums c.requires.derived c.loop-row.invariant few under fits here c.in_ok-fold_row.ensures)
+    (fold_step into c.loop-row.sums.def c.loop-row.sums.rows (map f (take i rows)) (f row) c.fold_row.new.sums c.requires.derived c.loop-row.invariant few under fits here c.in_ok-fold_row.ensures)
 
 pub returns : goal.returns
 returns c =
@@ -50,4 +50,4 @@ returns c =
     let done : length rows ≤ i = omega arith in
     let all = folded_all c.args.into.now c.loop-row.sums.def c.loop-row.sums.rows (map f (take i rows)) c.requires.derived c.loop-row.invariant in
     ok_weaker c.rows_of.result (λ r. r ≡ c.loop-row.sums.rows) (λ r. r ≡ folded c.args.into.now (map f rows)) c.rows_of.ensures
-      (λ r e. e ∙ all ∙ ap (folded c.args.into.now) (folded_whole f rows i done))
+    (λ r e. e ∙ all ∙ ap (folded c.args.into.now) (folded_whole f rows i done))

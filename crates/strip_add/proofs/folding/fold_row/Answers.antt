@@ -1,4 +1,4 @@
-use Rattle.std.proofs.Common.{◌≡◌, sym, subst, ap, ◌∙◌}
+use Rattle.std.proofs.Common.{sym, subst, ap, ◌∙◌}
 use Rattle.strip_value.specs.Kinds.{FitsColumns}
 use Rattle.strip_value.specs.Table.{with_row}
 use Rattle.strip_meaning.specs.Sums.{as_derived, summed}

@@ -1,4 +1,4 @@
-use Rattle.std.proofs.Common.{◌≡◌, ◌+◌, ◌++◌, ◌∷◌, [], suc, drop, length, map, arith, rules, sym, ap, subst, ◌∙◌, add-one}
+use Rattle.std.proofs.Common.{◌≡◌, ◌+◌, ◌++◌, ◌∷◌, [], suc, drop, map, arith, rules, sym, ap, subst, ◌∙◌}
 use Rattle.std.specs.List.{AllByRecursion}
 use Rattle.std.specs.Prelude.{◌^◌, FitsSigned, ◌+ℤ◌}
 use Rattle.std.proofs.lemmas.Int.{ints}
@@ -28,5 +28,5 @@ loop-value-preserved c =
     let head = (subst (AllByRecursion (IsUnder (2 ^ 126))) (first_sum left v (drop (suc i) more)) here.under).0 in
     let place : i + 1 ≡ suc i = omega arith in
     let pushed : c.push.new.self.items ≡ before ++ Int (first_number left +ℤ number_of v) ∷ [] =
-        c.in_ok-push.ensures.items ∙ ap (λ n. before ++ Int n ∷ []) (omega (arith, ints)) in
+    c.in_ok-push.ensures.items ∙ ap (λ n. before ++ Int n ∷ []) (omega (arith, ints)) in
     appends_as _ _ _ whole _ _ _ one pushed c.first_and_others-first.ensures.others (ap (λ n. drop n more) place)

@@ -1,4 +1,4 @@
-use Rattle.std.proofs.Common.{length, arith, ap, ◌∙◌, ◌++◌, sym, map, []}
+use Rattle.std.proofs.Common.{length, arith, ap, ◌∙◌, ◌++◌, map}
 use Rattle.strip_value.specs.declared.tables.TableDef.{TableDef}
 use Rattle.strip_value.specs.declared.values.Value.TheVariants.{Int}
 use Rattle.strip_meaning.specs.Sums.{plus}
