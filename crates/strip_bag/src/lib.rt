@@ -6,3 +6,6 @@ pub mod laws;
 
 pub use bag::Bag;
 pub use strip_value::{Row, RowList, Value};
+
+#[cfg(test)]
+mod tests;
