@@ -10,3 +10,6 @@ mod table;
 pub use rows::Rows;
 pub use strip_value::{Row, TableDef, Value};
 pub use table::{PutError, Table};
+
+#[cfg(test)]
+mod tests;

@@ -1,0 +1,4 @@
+pub mod KeyedAsMaps
+pub mod SumLaws
+pub mod ApplyLaws
+pub mod LawProofs

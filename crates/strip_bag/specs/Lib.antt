@@ -1,0 +1,5 @@
+-- What contracts of bags cite.
+pub mod Codes
+pub mod Entries
+pub mod Laws
+pub mod Examples
