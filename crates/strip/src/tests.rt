@@ -1,0 +1,244 @@
+use crate::run::{RunError, run_script};
+use crate::top::top;
+use std::alloc::{AllocError, Global};
+use std::sync::Wait;
+use std::test::Fail;
+use std::thread::Threads;
+use strip_engine::Limits;
+use strip_outside::{Clock, FreeGate, HostFiles, MemorySink, MemorySource};
+
+const STOCKS: &[u8] = b"table stocks (symbol text, price int, key symbol); ready; put stocks ('IBM', 100); put stocks ('IBM', 101); show stocks;\n";
+
+const STOCKS_REPLIES: [&[u8]; 5] = [
+    b"ok\n",
+    b"ok\n",
+    b"count 1\n",
+    b"count 1\n",
+    b"rows 1\n('IBM', 101)\n",
+];
+
+// The most bytes of a read and of a write, and the numbers of the calls that fail or take nothing.
+#[derive(Clone, Copy)]
+struct Outside {
+    read_cut: u64,
+    failing_reads: &'static [u64],
+    write_cut: u64,
+    failing_writes: &'static [u64],
+    still_writes: &'static [u64],
+}
+
+const WELL: Outside = Outside {
+    read_cut: 1000,
+    failing_reads: &[],
+    write_cut: 1000,
+    failing_writes: &[],
+    still_writes: &[],
+};
+
+// A clock that stands still.
+struct FixedClock;
+
+impl Clock for FixedClock {
+    fn now(&self) -> u64 {
+        0
+    }
+}
+
+#[derive(Drop)]
+struct Seen {
+    status: u8,
+    reads: u64,
+    out: Vec<u8>,
+}
+
+fn words_of(alloc: Global, texts: &[&str]) -> Result<Vec<String>, AllocError> {
+    let mut words = Vec::new(alloc);
+    for text in texts {
+        words.push(String::from_str(alloc, text)?)?;
+    }
+    Ok(words)
+}
+
+fn run_top<R: Threads + Wait + Sync>(
+    rt: &R,
+    alloc: Global,
+    words: &[&str],
+    text: &[u8],
+    outside: Outside,
+) -> Result<Seen, AllocError> {
+    let words = words_of(alloc, words)?;
+    let failing_reads = outside.failing_reads.to_vec(alloc)?;
+    let mut input = MemorySource::new(text.to_vec(alloc)?, outside.read_cut, failing_reads);
+    let mut out = MemorySink::new(
+        alloc,
+        outside.write_cut,
+        outside.failing_writes.to_vec(alloc)?,
+        outside.still_writes.to_vec(alloc)?,
+    );
+    let mut files = HostFiles::new();
+    let status = top(
+        rt,
+        alloc,
+        words.as_slice(),
+        &mut input,
+        &mut files,
+        &mut out,
+        &FixedClock,
+        &FreeGate,
+    );
+    Ok(Seen {
+        status,
+        reads: input.calls(),
+        out: out.written().to_vec(alloc)?,
+    })
+}
+
+// The first replies of the row of stocks.
+fn first_replies(alloc: Global, count: usize) -> Result<Vec<u8>, AllocError> {
+    let mut text = Vec::new(alloc);
+    for reply in STOCKS_REPLIES.iter().take(count) {
+        text.extend_from_slice(reply)?;
+    }
+    Ok(text)
+}
+
+// Scripts, what they are answered and the status, however the reads and the writes are cut.
+#[test]
+fn scripts_are_answered(rt: HostRuntime) -> Result<(), Fail> {
+    let rows: [(&[u8], &[u8], u8); 7] = [
+        (
+            STOCKS,
+            b"ok\nok\ncount 1\ncount 1\nrows 1\n('IBM', 101)\n",
+            0,
+        ),
+        (
+            b"table t (a int, key a); ready; put t (1); put t (1); drop t; show t;",
+            b"ok\nok\ncount 1\ncount 1\nrefused NotBuilt\nrows 1\n(1)\n",
+            1,
+        ),
+        (b"", b"", 0),
+        (b" ;\n;\t", b"", 0),
+        (
+            b"table t (a int, key a); ready; show t",
+            b"ok\nok\nrefused NotBuilt\n",
+            1,
+        ),
+        (
+            b"table t (n int, s text, key s); ready; put t (-1, 'b;''c'); put t (2, 'a'); show t;",
+            b"ok\nok\ncount 1\ncount 1\nrows 2\n(2, 'a')\n(-1, 'b;''c')\n",
+            0,
+        ),
+        (b"show t; ready; put t (1);", b"refused NotBuilt\nrefused NotBuilt\nrefused NotBuilt\n", 1),
+    ];
+    for (text, wanted, status) in rows {
+        for cut in [1u64, 2, 3, 1000] {
+            let outside = Outside { read_cut: cut, write_cut: cut, ..WELL };
+            let seen = run_top(&rt, rt.alloc(), &["script"], text, outside)?;
+            assert_eq!(rt; seen.out.as_slice(), wanted, "cut {cut}");
+            assert_eq!(rt; seen.status, status, "cut {cut}");
+        }
+    }
+    Ok(())
+}
+
+// Words that ask for nothing that there is: nothing is read or written.
+#[test]
+fn other_words_have_status_2(rt: HostRuntime) -> Result<(), Fail> {
+    let cases: [&[&str]; 6] = [&[], &[""], &["Script"], &["scrip"], &["script", "script"], &["help"]];
+    for words in cases {
+        let seen = run_top(&rt, rt.alloc(), words, STOCKS, WELL)?;
+        assert_eq!(rt; seen.status, 2, "{words:?}");
+        assert_eq!(rt; seen.reads, 0, "{words:?}");
+        assert!(rt; seen.out.is_empty(), "{words:?}");
+    }
+    Ok(())
+}
+
+// The most bytes of a read, the read that fails, and how many replies were written.
+#[test]
+fn a_read_that_fails_has_status_3(rt: HostRuntime) -> Result<(), Fail> {
+    let cases: [(u64, &'static [u64], usize); 7] = [
+        (1000, &[1], 0),
+        (1000, &[2], 5),
+        (49, &[2], 0),
+        (50, &[2], 1),
+        (56, &[2], 1),
+        (57, &[2], 2),
+        (1, &[83], 3),
+    ];
+    for (read_cut, failing_reads, replies) in cases {
+        let outside = Outside { read_cut, failing_reads, ..WELL };
+        let seen = run_top(&rt, rt.alloc(), &["script"], STOCKS, outside)?;
+        let wanted = first_replies(rt.alloc(), replies)?;
+        assert_eq!(rt; seen.status, 3, "{read_cut} {failing_reads:?}");
+        assert_eq!(rt; seen.out, wanted, "{read_cut} {failing_reads:?}");
+    }
+    Ok(())
+}
+
+// The most bytes of a write, the write that fails or takes nothing, and how many bytes were written.
+#[test]
+fn a_write_that_fails_has_status_4(rt: HostRuntime) -> Result<(), Fail> {
+    let cases: [(u64, &'static [u64], &'static [u64], usize); 8] = [
+        (1000, &[1], &[], 0),
+        (1000, &[2], &[], 3),
+        (1000, &[3], &[], 6),
+        (1000, &[4], &[], 14),
+        (1000, &[5], &[], 22),
+        (1000, &[], &[5], 22),
+        (1, &[8], &[], 7),
+        (2, &[], &[1], 0),
+    ];
+    let whole = first_replies(rt.alloc(), 5)?;
+    for (write_cut, failing_writes, still_writes, count) in cases {
+        let outside = Outside { write_cut, failing_writes, still_writes, ..WELL };
+        let seen = run_top(&rt, rt.alloc(), &["script"], STOCKS, outside)?;
+        assert_eq!(rt; seen.status, 4, "{count}");
+        assert_eq!(rt; seen.out.len(), count);
+        assert!(rt; whole.starts_with(seen.out.as_slice()), "{count}");
+    }
+    Ok(())
+}
+
+// A limit, and how many replies are written where it is passed.
+#[test]
+fn a_source_past_the_limit_is_refused(rt: HostRuntime) -> Result<(), Fail> {
+    let whole = STOCKS.len() as u64;
+    let cases: [(u64, Option<usize>); 6] = [
+        (whole, None),
+        (whole - 1, Some(5)),
+        (whole - 2, Some(4)),
+        (50, Some(1)),
+        (49, Some(0)),
+        (0, Some(0)),
+    ];
+    for (limit, passed) in cases {
+        let mut input = MemorySource::new(STOCKS.to_vec(rt.alloc())?, 3, Vec::new(rt.alloc()));
+        let mut out = MemorySink::new(rt.alloc(), 1000, Vec::new(rt.alloc()), Vec::new(rt.alloc()));
+        let limits = Limits { bound_rows: 1000 };
+        let wanted = first_replies(rt.alloc(), passed.unwrap_or(5))?;
+        match run_script(rt.alloc(), &mut input, &mut out, limit, limits) {
+            Ok(ended) => assert!(rt; passed.is_none() && !ended.refused, "limit {limit}"),
+            Err(RunError::TooMuch { limit: most }) => {
+                assert!(rt; passed.is_some() && most == limit, "limit {limit}");
+            }
+            Err(error) => assert!(rt; false, "limit {limit}: {error:?}"),
+        }
+        assert_eq!(rt; out.written(), wanted.as_slice(), "limit {limit}");
+    }
+    Ok(())
+}
+
+// Tried with allocations that fail: the run ends with 5 after some first replies, or is as it should be.
+#[test]
+fn want_of_memory_comes_between_replies(rt: HostRuntime) -> Result<(), Fail> {
+    let seen = run_top(&rt, rt.alloc(), &["script"], STOCKS, WELL)?;
+    let mut count = 5;
+    if seen.status == 5 {
+        count = seen.out.iter().filter(|byte| **byte == b'\n').count();
+    } else {
+        assert_eq!(rt; seen.status, 0);
+    }
+    assert_eq!(rt; seen.out, first_replies(rt.alloc(), count)?);
+    Ok(())
+}
