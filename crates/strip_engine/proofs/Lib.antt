@@ -1,3 +1,4 @@
 pub mod Fits
 pub mod Restores
 pub mod Holding
+pub mod Keeping

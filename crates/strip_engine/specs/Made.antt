@@ -8,9 +8,9 @@ use Rattle.strip_engine.specs.declared.undo.Session.{Session}
 use Rattle.strip_engine.specs.Holding.{held_by}
 
 -- the next session
-pub record IsMade (caller begins count : ℕ) (write read : List ℕ) (session : Session) : Type 0 where
+pub record IsMade (caller number count : ℕ) (write read : List ℕ) (session : Session) : Type 0 where
   pub called : session.caller ≡ caller
-  pub next : session.number ≡ begins + 1
+  pub next : session.number ≡ number
   pub holding : session.holds ≡ held_by count write read
   pub clean : session.log.items ≡ []
 

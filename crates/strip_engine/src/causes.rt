@@ -108,7 +108,9 @@ fn cause_of_range(columns: &[ColumnDef], row: &[Value]) -> Option<ActError>
     None
 }
 
-fn cause_of_row(columns: &[ColumnDef], row: &[Value]) -> Option<ActError>
+/// Why the values of a row aren't those of a table: one is missing, of the wrong kind or out of range, or there are too
+/// many. Columns count from 1.
+pub fn row_misfit(columns: &[ColumnDef], row: &[Value]) -> Option<ActError>
     requires { length columns.now ≤ 16 }
     ensures { result ≡ misfit columns.now row.now }
 {
@@ -137,5 +139,5 @@ pub(crate) fn cause_before_put(
     if let Some(cause) = cause_derived(def, id) {
         return Some(cause);
     }
-    cause_of_row(def.columns.as_slice(), row)
+    row_misfit(def.columns.as_slice(), row)
 }

@@ -81,7 +81,14 @@ impl Engine {
         ensures { BeginsSession self.old caller write.now read.now self.new result }
     {
         let count = table_count(&self.catalog);
-        let Ok(session) = new_session(self.alloc, caller, self.begins, count, write, read) else {
+        let Ok(session) = new_session(
+            self.alloc,
+            caller,
+            next_session(&self.history, self.begins),
+            count,
+            write,
+            read,
+        ) else {
             return Err(BeginError::Memory);
         };
         let Ok(()) = add_begin(self.alloc, &mut self.history, &session) else {
@@ -203,22 +210,30 @@ fn empty(alloc: Global, defs: &[TableDef]) -> Result<Vec<Table>, AllocError>
     Ok(tables)
 }
 
+/// The number after those that have begun. It fits, since a history has fewer than 2^63 entries.
+fn next_session(history: &History, begins: u64) -> u64
+    requires { begins ≤ length history.now.entries }
+    ensures { result ≡ begins + 1 }
+{
+    prove!(begins <= history.len());
+    begins + 1
+}
+
 /// The next session, which holds what it asks for.
 fn new_session(
     alloc: Global,
     caller: u32,
-    begins: u64,
+    number: u64,
     count: u32,
     write: &[Id],
     read: &[Id],
 ) -> Result<Session, AllocError>
-    requires { begins + 1 < 2 ^ 64 }
-    ensures { IfOk result (IsMade caller begins count write.now read.now) }
+    ensures { IfOk result (IsMade caller number count write.now read.now) }
 {
     let holds = holds_of(alloc, count, write, read)?;
     Ok(Session {
         caller,
-        number: begins + 1,
+        number,
         holds,
         log: Vec::new(alloc),
     })

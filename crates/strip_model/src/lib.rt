@@ -4,6 +4,8 @@
 
 mod entries;
 mod history;
+#[cfg(test)]
+mod tests;
 mod texts;
 
 pub use entries::Entry;

@@ -13,6 +13,12 @@ Fits kind.Big (Int n) = (neg_ℤ (pos (2 ^ 126)) <ℤ n) × (n <ℤ pos (2 ^ 126
 Fits kind.Text (Text t) = Unit {0}
 Fits _ _ = ⊥
 
+-- the row has just one value for each of the kinds, of this kind
+abbrev pub FitsKinds : List Kind → List Value → Type 0
+FitsKinds [] [] = Unit {0}
+FitsKinds (k ∷ ks) (v ∷ vs) = Fits k v × FitsKinds ks vs
+FitsKinds _ _ = ⊥
+
 -- the row has just one value for each column, of its kind
 abbrev pub FitsColumns : List ColumnDef → List Value → Type 0
 FitsColumns [] [] = Unit {0}

@@ -9,3 +9,7 @@ pub mod Places
 pub mod Codes
 pub mod Bag
 pub mod Pieces
+pub mod Trees
+pub mod Query
+pub mod Bounds
+pub mod QueryExamples

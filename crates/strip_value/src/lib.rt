@@ -7,11 +7,14 @@ mod actions;
 mod acts;
 mod changes;
 mod copies;
+#[cfg(test)]
+mod copy_tests;
 mod errors;
 mod expressions;
 mod ids;
 mod items;
 mod kinds;
+mod laws;
 mod names;
 mod pieces;
 mod queries;
@@ -19,6 +22,8 @@ mod rows;
 mod rules;
 mod streams;
 mod tables;
+#[cfg(test)]
+mod tests;
 mod texts;
 mod values;
 
@@ -34,6 +39,7 @@ pub use expressions::{Calc, Cmp, Test};
 pub use ids::{Id, Ids};
 pub use items::{Bytes, Items, U32List};
 pub use kinds::{Kind, KindList, Kinds, fits};
+pub use laws::{equal_rows_are_one, equal_values_are_one, row_order_is_total, rows_have_one_order};
 pub use names::{Name, NameList};
 pub use pieces::Piece;
 pub use queries::{Input, InputList, Item, ItemList, Place, PlaceList, Query, Set, SetList, What};

@@ -1,15 +1,14 @@
-use Rattle.std.proofs.Common.{rules, ◌≡◌, ◌≤◌, ◌^◌, ◌+◌, ◌<◌, [], length, IfOk, ℕ, ◌-◌, ◌*◌, ◌/◌, ◌%◌, Bool, true, false, nat_eq, nat_lt, List, ◌∷◌, ◌++◌, slice_index_or, slice_set, bit_and, bit_or, Fits, w8, w32, w64, Bor, MutBor}
-use Rattle.strip_engine.specs.Calls.{IsNew, BeginsSession, Acts, Commits, Undoes}
-use Rattle.strip_engine.specs.Made.{IsMade, AddsBegin}
-use Rattle.strip_engine.specs.State.{past, start}
-use Rattle.strip_model.specs.History.{empty_tables, live}
-use Rattle.strip_model.specs.Legal.{Legal, Names}
+use Rattle.strip_engine.proofs.Keeping.{keeps_begin, begun_at_most}
 use Rattle.strip_engine.proofs.engine.Engine.begin.Goals as goal
 
--- src/engine.rt:84:27
-pub new_session-requires : goal.new_session-requires
-new_session-requires c = ?
+pub next_session-requires : goal.next_session-requires
+next_session-requires c =
+    let e = c.self.inside in
+    begun_at_most e.catalog e.tables.items e.history.entries e.history.room e.session e.begins e.latest c.self.invariant
 
--- src/engine.rt:79:5
 pub invariant_of-self-2 : goal.invariant_of-self-2
-invariant_of-self-2 c = ?
+invariant_of-self-2 c =
+    let e = c.self.inside in
+    let none = rw (← c.self.view_is) at c.requires in
+    let made = rw c.next_session.ensures at c.in-Ok.ensures in
+    keeps_begin e.catalog e.tables.items e.history.entries c.add_begin.new.history.entries e.history.room c.add_begin.new.history.room e.session e.begins e.latest c.args.caller c.table_count-count.result c.args.write.now c.args.read.now c.in-Ok.session c.self.invariant none made c.table_count-count.ensures c.in-Ok-add_begin.ensures.0 c.in-Ok-add_begin.ensures.1

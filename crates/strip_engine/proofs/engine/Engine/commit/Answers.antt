@@ -1,11 +1,13 @@
-use Rattle.std.proofs.Common.{rules, ◌≡◌, ◌≤◌, ◌^◌, ◌+◌, ◌<◌, [], length, IfOk, ℕ, ◌-◌, ◌*◌, ◌/◌, ◌%◌, Bool, true, false, nat_eq, nat_lt, List, ◌∷◌, ◌++◌, slice_index_or, slice_set, bit_and, bit_or, Fits, w8, w32, w64, Bor, MutBor}
-use Rattle.strip_engine.specs.Calls.{IsNew, BeginsSession, Acts, Commits, Undoes}
-use Rattle.strip_engine.specs.Made.{IsMade, AddsBegin}
-use Rattle.strip_engine.specs.State.{past, start}
-use Rattle.strip_model.specs.History.{empty_tables, live}
-use Rattle.strip_model.specs.Legal.{Legal, Names}
+use Rattle.std.proofs.Common.{Option, sym, ◌∙◌, subst, arith}
+use Rattle.strip_engine.specs.declared.undo.Session.{Session}
+use Rattle.strip_engine.specs.Keeps.{Keeps}
+use Rattle.strip_engine.proofs.Keeping.{keeps_commit}
 use Rattle.strip_engine.proofs.engine.Engine.commit.Goals as goal
 
--- src/engine.rt:127:9
 pub invariant_of-self : goal.invariant_of-self
-invariant_of-self c = ?
+invariant_of-self c =
+    let e = c.self.inside in
+    let here = sym c.take.ensures.value ∙ c.in-Some.is in
+    let keeps = subst (λ (o : Option Session). Keeps e.catalog e.tables.items e.history.entries e.history.room o e.begins e.latest) here c.self.invariant in
+    let added = rw (← c.if-take-session.true) at c.push.ensures.entries in
+    rw c.take.ensures.after (keeps_commit e.catalog e.tables.items e.history.entries c.push.new.self.entries e.history.room c.push.new.self.room c.in-Some.live e.begins e.latest c.args.moment c.max-late.result keeps (omega arith) added)

@@ -1,11 +1,9 @@
-use Rattle.std.proofs.Common.{rules, ◌≡◌, ◌≤◌, ◌^◌, ◌+◌, ◌<◌, [], length, IfOk, ℕ, ◌-◌, ◌*◌, ◌/◌, ◌%◌, Bool, true, false, nat_eq, nat_lt, List, ◌∷◌, ◌++◌, slice_index_or, slice_set, bit_and, bit_or, Fits, w8, w32, w64, Bor, MutBor}
-use Rattle.strip_engine.specs.Calls.{IsNew, BeginsSession, Acts, Commits, Undoes}
-use Rattle.strip_engine.specs.Made.{IsMade, AddsBegin}
-use Rattle.strip_engine.specs.State.{past, start}
-use Rattle.strip_model.specs.History.{empty_tables, live}
-use Rattle.strip_model.specs.Legal.{Legal, Names}
+use Rattle.std.proofs.Common.{◌∙◌, ap}
+use Rattle.strip_model.specs.History.{empty_tables}
+use Rattle.strip_engine.proofs.Keeping.{keeps_new}
 use Rattle.strip_engine.proofs.engine.Engine.new.Goals as goal
 
--- src/engine.rt:66:9
 pub invariant_of-result : goal.invariant_of-result
-invariant_of-result c = ?
+invariant_of-result c =
+    let made = c.in-Ok.ensures ∙ ap empty_tables c.defs.ensures.all in
+    keeps_new c.args.catalog c.in-Ok.tables.items c.new.result.entries c.new.result.room c.defs.ensures.base made c.new.ensures.entries

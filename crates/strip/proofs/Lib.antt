@@ -1,0 +1,4 @@
+pub mod FormLaws
+pub mod BaseLaws
+pub mod RunState
+pub mod StatusLaws

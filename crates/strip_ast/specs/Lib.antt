@@ -1,0 +1,3 @@
+-- What tokens and statements are, and how they are written.
+pub mod Marks
+pub mod Tokens
