@@ -1,5 +1,5 @@
 -- A row that no cause keeps out of a base table has its columns' kinds.
-use Rattle.std.proofs.Common.{◌≡◌, ℕ, ◌+◌, ◌^◌, ◌<◌, ◌≤◌, Bool, true, false, not, ◌&&◌, cond, List, [], ◌∷◌, ◌++◌, length, get_or, map, Option, Some, None, ℤ, pos, neg_ℤ, ◌≤ℤ◌, ◌<ℤ◌, refl, ap, sym, ◌∙◌, subst, arith, rules, tests}
+use Rattle.std.proofs.Common.{◌≡◌, ℕ, ◌+◌, ◌^◌, ◌<◌, Bool, true, false, not, ◌&&◌, cond, List, [], ◌∷◌, length, get_or, Option, Some, None, ℤ, pos, neg_ℤ, ◌≤ℤ◌, ◌<ℤ◌, refl, ap, ◌∙◌, subst, arith, rules, tests}
 use Rattle.std.specs.Prelude.{int_le, int_lt}
 use Rattle.std.specs.List.{AllByRecursion}
 use Rattle.std.proofs.Math.ListN.{get_or-map}
@@ -15,7 +15,7 @@ use Rattle.strip_value.specs.declared.values.Value.TheVariants.{Int, Text}
 use Rattle.strip_value.specs.Kinds.{Fits, FitsColumns}
 use Rattle.strip_value.specs.Table.{Keyed}
 use Rattle.strip_value.proofs.Lists.{all_at}
-use Rattle.strip_meaning.specs.Effect.{is_alike, is_outside, outside_at, kind_mismatch, out_of_range, misfit, or_cause, table_at, no_table}
+use Rattle.strip_meaning.specs.Effect.{is_alike, outside_at, kind_mismatch, out_of_range, misfit, or_cause, table_at, no_table}
 use Rattle.strip_engine.specs.Setup.{is_plain, IsBase, AreBase}
 use Rattle.strip_engine.specs.Steps.{defs_of}
 use Rattle.strip_engine.specs.Undo.{def_at}

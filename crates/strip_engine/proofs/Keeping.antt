@@ -1,27 +1,25 @@
 -- Each call of the engine keeps what it keeps true of its fields.
-use Rattle.std.proofs.Common.{◌≡◌, ℕ, suc, ◌+◌, ◌^◌, ◌<◌, ◌≤◌, min, max, Bool, true, false, not, ◌&&◌, ◌||◌, ◌==◌, cond, List, [], ◌∷◌, ◌++◌, length, map, reverse, Option, Some, None, Result, Ok, Err, refl, sym, ap, ◌∙◌, subst, arith}
+use Rattle.std.proofs.Common.{◌≡◌, ℕ, ◌+◌, ◌^◌, ◌≤◌, min, max, true, false, not, ◌&&◌, ◌||◌, ◌==◌, cond, List, [], ◌∷◌, ◌++◌, length, map, reverse, Option, Some, None, Result, Ok, Err, sym, ap, ◌∙◌, subst, arith}
 use Rattle.std.specs.declared.alloc.AllocError.{AllocError}
 use Rattle.std.specs.List.{AllByRecursion, list_all, list_any}
 use Rattle.std.proofs.lemmas.List.{reverse-append, length-reverse}
 use Rattle.strip_value.specs.declared.acts.Act.{Act}
-use Rattle.strip_value.specs.declared.acts.Act.TheVariants.{Put, Show}
 use Rattle.strip_value.specs.declared.acts.Holds.{Holds}
 use Rattle.strip_value.specs.declared.acts.Reply.{Reply}
 use Rattle.strip_value.specs.declared.tables.TableDef.{TableDef}
 use Rattle.strip_value.specs.Table.{Keyed}
-use Rattle.strip_meaning.specs.Effect.{effect, run, Run, one_more, has_id}
+use Rattle.strip_meaning.specs.Effect.{effect, run, has_id}
 use Rattle.strip_model.specs.declared.entries.Entry.{Entry}
-use Rattle.strip_model.specs.declared.entries.Entry.TheVariants.{Begin, Did, Commit, Undo}
+use Rattle.strip_model.specs.declared.entries.Entry.TheVariants.{Begin, Did, Commit}
 use Rattle.strip_model.specs.History.{empty_tables, begins, acts, holds, Live, live, ended, base, at_begin, working, latest}
 use Rattle.strip_model.specs.Legal.{Legal, Names, IsOpen, Rise, conflict, Begins}
 use Rattle.strip_model.specs.Says.{chosen, read_besides}
 use Rattle.strip_model.proofs.HistoryLaws.{itself, no_acts, latest_in_time, chosen_rises, chosen_apart, defs_of_empty, length_of_empty, begins_at_most}
 use Rattle.strip_engine.specs.declared.undo.Session.{Session}
-use Rattle.strip_engine.specs.Holding.{held_by}
 use Rattle.strip_engine.specs.Keeps.{Keeps, Stands, AtRest, InProgress}
 use Rattle.strip_engine.specs.Made.{IsMade}
 use Rattle.strip_engine.specs.Setup.{AreBase}
-use Rattle.strip_engine.specs.Steps.{Performs, SameSession, Changes}
+use Rattle.strip_engine.specs.Steps.{Performs, SameSession}
 use Rattle.strip_engine.specs.Undo.{all_restored, IsRestore}
 
 -- one entry more is the newest

@@ -1,5 +1,5 @@
 -- A put among the tables: when it is refused, what it changes, and that its change can be taken back.
-use Rattle.std.proofs.Common.{◌≡◌, ℕ, zero, suc, ◌<◌, List, [], ◌∷◌, ◌++◌, length, get_or, set, map, reverse, find, Option, Some, None, Result, Ok, Err, IfOk, refl, ap, sym, ◌∙◌, subst, arith}
+use Rattle.std.proofs.Common.{◌≡◌, ℕ, zero, suc, ◌<◌, List, [], ◌∷◌, ◌++◌, length, get_or, set, reverse, Option, Some, None, Result, Ok, Err, IfOk, refl, ap, sym, ◌∙◌, subst, arith}
 use Rattle.std.specs.declared.alloc.AllocError.{AllocError}
 use Rattle.std.specs.List.{AllByRecursion}
 use Rattle.std.proofs.lemmas.List.{set-get_or, get_or-set_same, reverse-append, length-map, get_or_default}
@@ -20,7 +20,7 @@ use Rattle.strip_meaning.specs.Effect.{Effect, effect, unless, refusal, done, fu
 use Rattle.strip_engine.specs.declared.undo.Restore.{Restore}
 use Rattle.strip_engine.specs.declared.undo.Restore.TheVariants.{Remove, Replace}
 use Rattle.strip_engine.specs.Steps.{PutsInto, PutsRow, RepliesTo, Changes, defs_of, restore_of}
-use Rattle.strip_engine.specs.Undo.{restored, all_restored, IsRestore, def_at}
+use Rattle.strip_engine.specs.Undo.{restored, all_restored, IsRestore}
 use Rattle.strip_engine.proofs.Fits.{def_of_table}
 
 -- where none of the first causes applies, the last one decides

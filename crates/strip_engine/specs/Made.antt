@@ -1,5 +1,5 @@
 -- What the steps of a begin make.
-use Rattle.std.specs.Prelude.{◌≡◌, ℕ, ◌+◌, ◌≤◌, List, [], ◌∷◌, ◌++◌, Result, Ok, Err}
+use Rattle.std.specs.Prelude.{◌≡◌, ℕ, ◌≤◌, List, [], ◌∷◌, ◌++◌, Result, Ok, Err}
 use Rattle.std.specs.declared.alloc.AllocError.{AllocError}
 use Rattle.strip_model.specs.declared.entries.Entry.{Entry}
 use Rattle.strip_model.specs.declared.entries.Entry.TheVariants.{Begin}

@@ -1,6 +1,5 @@
 -- How changes in place are taken back: a list of what to do, the newest first.
 use Rattle.std.specs.Prelude.{ℕ, ◌<◌, List, [], ◌∷◌, get_or, length}
-use Rattle.std.specs.List.{AllByRecursion}
 use Rattle.strip_value.specs.declared.tables.TableDef.{TableDef}
 use Rattle.strip_value.specs.Kinds.{FitsColumns}
 use Rattle.strip_value.specs.Table.{Keyed, without, put_back}

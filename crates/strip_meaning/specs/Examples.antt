@@ -1,10 +1,8 @@
 -- Small inputs on which the definitions compute.
-use Rattle.std.specs.Prelude.{◌≡◌, ℕ, List, [], ◌∷◌, Option, Some, None, Bool, false, codes, pos, refl}
-use Rattle.strip_value.specs.declared.acts.Act.{Act}
+use Rattle.std.specs.Prelude.{◌≡◌, ℕ, List, [], ◌∷◌, Some, None, false, codes, pos, refl}
 use Rattle.strip_value.specs.declared.acts.Act.TheVariants.{Put, Show}
 use Rattle.strip_value.specs.declared.acts.ActError.TheVariants.{NotHeld, ReadOnly, KindMismatch, OutOfRange, Full}
 use Rattle.strip_value.specs.declared.acts.Holds.{Holds}
-use Rattle.strip_value.specs.declared.acts.Reply.{Reply}
 use Rattle.strip_value.specs.declared.acts.Reply.TheVariants.{Rows, Count, Refused}
 use Rattle.strip_value.specs.declared.kinds.Kind.TheVariants as kind
 use Rattle.strip_value.specs.declared.values.Value.{Value}

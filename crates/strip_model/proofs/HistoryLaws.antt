@@ -1,15 +1,14 @@
 -- Laws of histories.
-use Rattle.std.proofs.Common.{◌≡◌, ℕ, zero, suc, ◌+◌, ◌^◌, ◌<◌, ◌≤◌, max, Bool, true, false, not, ◌&&◌, ◌||◌, ◌==◌, cond, eqb, List, [], ◌∷◌, ◌++◌, length, map, filter, refl, sym, ap, ◌∙◌, subst, arith}
+use Rattle.std.proofs.Common.{◌≡◌, ℕ, zero, suc, ◌+◌, ◌^◌, ◌<◌, ◌≤◌, Bool, true, false, not, ◌&&◌, ◌||◌, ◌==◌, cond, List, [], ◌∷◌, ◌++◌, length, map, refl, sym, ap, ◌∙◌, subst, arith}
 use Rattle.std.specs.List.{AllByRecursion, list_all, list_any}
 use borrow.Author.Tests.{eqb-true, eq-eqb}
-use Rattle.strip_value.specs.declared.acts.Act.{Act}
 use Rattle.strip_value.specs.declared.tables.TableDef.{TableDef}
 use Rattle.strip_value.specs.Table.{Keyed}
 use Rattle.strip_value.proofs.Lists.{all_weaker, all_filter}
 use Rattle.strip_meaning.specs.Effect.{has_id}
 use Rattle.strip_model.specs.declared.entries.Entry.{Entry}
 use Rattle.strip_model.specs.declared.entries.Entry.TheVariants.{Begin, Did, Commit, Undo}
-use Rattle.strip_model.specs.History.{empty_tables, begins, acts, Live, live, ended, latest}
+use Rattle.strip_model.specs.History.{empty_tables, begins, acts, Live, live, latest}
 use Rattle.strip_model.specs.Legal.{Legal, IsOpen, Rise}
 use Rattle.strip_model.specs.Says.{chosen, read_besides}
 

@@ -1,7 +1,7 @@
 -- Small histories on which the definitions compute.
-use Rattle.std.specs.Prelude.{◌≡◌, List, [], ◌∷◌, ◌++◌, Some, None, codes, pos, false, refl}
+use Rattle.std.specs.Prelude.{◌≡◌, List, [], ◌∷◌, Some, None, codes, pos, false, refl}
 use Rattle.std.specs.Fmt.{digits}
-use Rattle.strip_value.specs.declared.acts.Act.TheVariants.{Put, Show}
+use Rattle.strip_value.specs.declared.acts.Act.TheVariants.{Put}
 use Rattle.strip_value.specs.declared.acts.ActError.TheVariants.{Full}
 use Rattle.strip_value.specs.declared.acts.Reply.TheVariants.{Rows, Count, Refused}
 use Rattle.strip_value.specs.declared.kinds.Kind.TheVariants as kind
@@ -14,8 +14,8 @@ use Rattle.strip_meaning.specs.Effect.{effect}
 use Rattle.strip_model.specs.declared.entries.Entry.{Entry}
 use Rattle.strip_model.specs.declared.entries.Entry.TheVariants.{Begin, Did, Commit, Undo}
 use Rattle.strip_model.specs.History.{empty_tables, base, live, begins}
-use Rattle.strip_model.specs.Legal.{Follows, reply_of}
-use Rattle.strip_model.specs.Says.{says, to_begin, to_act, opened, replied}
+use Rattle.strip_model.specs.Legal.{reply_of}
+use Rattle.strip_model.specs.Says.{says, to_begin, opened}
 use Rattle.strip_model.specs.Texts.{line_of_reply}
 
 -- a table of numbers that takes one row

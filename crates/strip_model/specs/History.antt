@@ -1,6 +1,6 @@
 -- What a history means. It stands newest entry first here: the entries before an entry are the tail, and the place of
 -- an entry is the length of its tail.
-use Rattle.std.specs.Prelude.{ℕ, ◌+◌, max, Bool, not, ◌&&◌, ◌==◌, if◌then◌else◌, List, [], ◌∷◌, ◌++◌, map, filter}
+use Rattle.std.specs.Prelude.{ℕ, ◌+◌, max, not, ◌==◌, if◌then◌else◌, List, [], ◌∷◌, ◌++◌, map, filter}
 use Rattle.strip_value.specs.declared.acts.Act.{Act}
 use Rattle.strip_value.specs.declared.acts.Holds.{Holds}
 use Rattle.strip_value.specs.declared.changes.Change.{Change}

@@ -9,7 +9,7 @@ use Rattle.strip_value.specs.Table.{Keyed}
 use Rattle.strip_model.specs.declared.entries.Entry.{Entry}
 use Rattle.strip_model.specs.declared.entries.Entry.TheVariants.{Begin, Did, Commit, Undo}
 use Rattle.strip_meaning.specs.Effect.{effect, has_id}
-use Rattle.strip_model.specs.History.{Live, begins, holds, live, latest, working}
+use Rattle.strip_model.specs.History.{begins, holds, live, latest, working}
 
 -- the numbers rise, from `low` on, and are below `high`
 abbrev pub Rise : ℕ → ℕ → List ℕ → Type 0

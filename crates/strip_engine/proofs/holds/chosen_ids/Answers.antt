@@ -1,4 +1,4 @@
-use Rattle.std.proofs.Common.{◌≡◌, true, false, [], ◌∷◌, ◌++◌, sym, ◌∙◌, append-nil}
+use Rattle.std.proofs.Common.{true, false, sym, ◌∙◌, append-nil}
 use Rattle.strip_model.specs.Says.{chosen, read_besides}
 use Rattle.strip_engine.proofs.Holding.{chosen_step}
 use Rattle.strip_engine.proofs.holds.chosen_ids.Goals as goal

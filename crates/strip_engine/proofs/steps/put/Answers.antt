@@ -1,6 +1,5 @@
 use Rattle.std.proofs.Common.{◌≡◌, ◌<◌, ◌≤◌, length, arith, ap, sym, subst, ◌∙◌}
 use Rattle.strip_value.specs.declared.tables.TableDef.{TableDef}
-use Rattle.strip_value.specs.Kinds.{FitsColumns}
 use Rattle.strip_value.specs.Table.{Keyed}
 use Rattle.strip_meaning.specs.Effect.{table_at}
 use Rattle.strip_engine.proofs.Fits.{table_read, base_at, fits_base}

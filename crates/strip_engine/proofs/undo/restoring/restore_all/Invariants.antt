@@ -1,7 +1,4 @@
-use Rattle.std.proofs.Common.{◌≡◌, reverse, vec_len}
-use Rattle.std.specs.List.{AllByRecursion}
-use Rattle.strip_engine.specs.Steps.{defs_of}
-use Rattle.strip_engine.specs.Undo.{IsRestore, all_restored}
+use Rattle.std.proofs.Common.{vec_len}
 use Rattle.strip_engine.proofs.Restores.{Restoring}
 use Rattle.strip_engine.proofs.undo.restoring.restore_all.Given as goal
 
