@@ -3,11 +3,15 @@
 
 mod cutting;
 mod deeds;
+mod expression_text;
 mod expressions;
 mod faults;
 mod marks;
+mod printed;
+mod printer;
 mod queries;
 mod rules;
+mod statement_text;
 mod statements;
 mod token_types;
 
