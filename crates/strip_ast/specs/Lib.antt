@@ -4,3 +4,4 @@ pub mod Tokens
 pub mod Pieces
 pub mod Written
 pub mod Grammar
+pub mod Syntax
