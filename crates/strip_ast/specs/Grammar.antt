@@ -68,6 +68,10 @@ abbrev pub Maybe : {A : Type 0} → (List Placed → A → Type 0) → List Plac
 Maybe R u None = u ≡ []
 Maybe R u (Some a) = R u a
 
+-- an expression and then `)`
+abbrev pub Closed : (List Placed → Expr → Type 0) → List Placed → Expr → Type 0
+Closed I u e = Seq I (One (mark m.Close)) u e tt
+
 -- the list is matched as the tree; `I` says what stands in parentheses
 abbrev pub Matches : {A : Type 0} → (List Placed → Expr → Type 0) → Grammar A → List Placed → A → Type 0
 Matches I (terminal t) u a = One t u a
@@ -78,4 +82,4 @@ Matches I (either g h) u a = Matches I g u a ⊎ Matches I h u a
 Matches I (many g) u a = Each (Matches I g) u a
 Matches I (commas g h) u c = Seq (Each (Behind (mark m.Comma) (Matches I g))) (Maybe (Behind (mark m.Comma) (Matches I h))) u c.0 c.1
 Matches I (outermost g) u a = Matches I g u a
-Matches I (or_enclosed g) u e = Matches I g u e ⊎ Behind (mark m.Open) (λ v e'. Seq I (One (mark m.Close)) v e' tt) u e
+Matches I (or_enclosed g) u e = Matches I g u e ⊎ Behind (mark m.Open) (Closed I) u e

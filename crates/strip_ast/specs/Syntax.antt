@@ -100,13 +100,13 @@ unfoldable pub column : Grammar ColumnDef
 column = made (both a_name (either (stands m.Int kind.Int) (stands m.Text kind.Text))) (λ p. record { name = p.0; kind = p.1 })
 
 -- column {"," column} ["," "key" names]
-unfoldable pub columns : Grammar (ColumnDef × (List ColumnDef × Option (List (List ℕ))))
-columns = both column (commas column (m.Key ▸ names))
+unfoldable pub columns : Grammar (List ColumnDef × List (List ℕ))
+columns = made (both column (commas column (m.Key ▸ names))) (λ p. (p.0 ∷ p.1.0, or_none p.1.1))
 
 -- table = "table" name "(" column {"," column} ["," "key" names] ")" ["limit" number]
 unfoldable pub table : Grammar Statement
 table =
-    made (both (m.Table ▸ a_name) (both (m.Open ▸ (columns ◂ m.Close)) (optional (m.Limit ▸ a_number)))) (λ p. st.Table p.0 (p.1.0.0 ∷ p.1.0.1.0) (or_none p.1.0.1.1) p.1.1)
+    made (both (m.Table ▸ a_name) (both (m.Open ▸ (columns ◂ m.Close)) (optional (m.Limit ▸ a_number)))) (λ p. st.Table p.0 p.1.0.0 p.1.0.1 p.1.1)
 
 -- stream = "stream" name "into" name ["marked"]
 unfoldable pub stream : Grammar Statement
@@ -288,22 +288,29 @@ row = m.Open ▸ (listed a_value ◂ m.Close)
 unfoldable pub set : Grammar SetTree
 set = made (both a_name (m.Equal ▸ outermost sum)) (λ p. record { column = p.0; value = p.1 })
 
--- act = "insert" name row {"," row} | "put" name row
+-- "insert" name row {"," row}
 unfoldable pub insert : Grammar Deed
 insert = made (both (m.Insert ▸ a_name) (listed row)) (λ p. deed_.Insert p.0 p.1)
 
+-- "put" name row
 unfoldable pub put : Grammar Deed
 put = made (both (m.Put ▸ a_name) row) (λ p. deed_.Put p.0 p.1)
 
---     | "update" name "set" name "=" sum {"," name "=" sum} ["where" expr]
+-- "update" name "set" name "=" sum {"," name "=" sum} ["where" expr]
 unfoldable pub update : Grammar Deed
 update = made (both (m.Update ▸ a_name) (both (m.Set ▸ listed set) filter)) (λ p. deed_.Update p.0 p.1.0 p.1.1)
 
---     | "delete" name ["where" expr] | query | "show" name
+-- "delete" name ["where" expr]
 unfoldable pub delete : Grammar Deed
 delete = made (both (m.Delete ▸ a_name) filter) (λ p. deed_.Delete p.0 p.1)
 
--- deed = "begin" ["write" names] ["read" names]
+-- act = "insert" name row {"," row} | "put" name row
+--     | "update" name "set" name "=" sum {"," name "=" sum} ["where" expr]
+--     | "delete" name ["where" expr] | query | "show" name    (the last stands in `show`)
+unfoldable pub act : Grammar Deed
+act = either insert (either put (either update (either delete (made query deed_.Select))))
+
+-- "begin" ["write" names] ["read" names]
 unfoldable pub begin : Grammar Deed
 begin =
     made (m.Begin ▸ both (made (optional (m.Write ▸ names)) or_none) (made (optional (m.Read ▸ names)) or_none)) (λ p. deed_.Begin p.0 p.1)
@@ -312,10 +319,11 @@ begin =
 unfoldable pub show : Grammar Deed
 show = m.Show ▸ either (stands m.Pending deed_.ShowPending) (made a_name deed_.Show)
 
---      | "commit" | "undo" | act | "start" | "finish" number | "return" number | "run" | "show" "pending"
+-- deed = "begin" ["write" names] ["read" names] | "commit" | "undo" | act
+--      | "start" | "finish" number | "return" number | "run" | "show" "pending"
 unfoldable pub deed : Grammar Deed
 deed =
-    either begin (either (stands m.Commit deed_.Commit) (either (stands m.Undo deed_.Undo) (either insert (either put (either update (either delete (either (made query deed_.Select) (either (stands m.Start deed_.Start) (either (made (m.Finish ▸ a_number) deed_.Finish) (either (made (m.Return ▸ a_number) deed_.Return) (either (stands m.Run deed_.Run) show)))))))))))
+    either begin (either (stands m.Commit deed_.Commit) (either (stands m.Undo deed_.Undo) (either (stands m.Start deed_.Start) (either (made (m.Finish ▸ a_number) deed_.Finish) (either (made (m.Return ▸ a_number) deed_.Return) (either (stands m.Run deed_.Run) (either show act)))))))
 
 -- ["as" number] deed
 unfoldable pub called : Grammar Statement

@@ -1,0 +1,5 @@
+pub mod Begins
+pub mod Laws
+pub mod Completeness
+pub mod Faults
+pub mod Loops
