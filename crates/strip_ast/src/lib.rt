@@ -29,3 +29,6 @@ pub use rules::{
 };
 pub use statements::Statement;
 pub use token_types::{Digits, Placed, Token, TokenList};
+
+#[cfg(test)]
+mod tests;

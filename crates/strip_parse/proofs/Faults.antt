@@ -200,3 +200,97 @@ read_one_local t k l = record { within = within; same = same }
     same : (u w z : List Placed) (x : Placed) → and_then (read_one t (u ++ x ∷ w)) k ≡ Err (x ∷ w) → and_then (read_one t (u ++ x ∷ z)) k ≡ Err (x ∷ z)
     same [] w z x e = one_same k l w z x (takes t x.token) e
     same (p ∷ u) w z x e = one_later k l p u w z x (takes t p.token) e
+
+-- ---- the laws of the words
+
+pub pure_local : {A S : Type 0} (a : A) → Localizes S (λ ts. Ok (a, ts))
+pure_local a k l = l a
+
+pub then_local : {A B S : Type 0} (p : List Placed → Read A) (f : A → List Placed → Read B) → Localizes S p → ((a : A) → Localizes S (f a)) → Localizes S (λ ts. and_then (p ts) f)
+then_local p f lp lf k l =
+    local_along (λ ts. and_then (p ts) (λ a ts'. and_then (f a ts') k)) (λ ts. and_then (and_then (p ts) f) k) (λ ts. then_then (p ts) f k) (lp (λ a ts'. and_then (f a ts') k) (λ a. lf a k l))
+
+by_choice : {A S : Type 0} (b : Bool) (x y : Read A) (k : A → List Placed → Result S (List Placed)) (r : Result S (List Placed)) (P : Type 0) → and_then (if b then x else y) k ≡ r → (b ≡ true → and_then x k ≡ r → P) → (b ≡ false → and_then y k ≡ r → P) → P
+by_choice true x y k r P is f g = f refl is
+by_choice false x y k r P is f g = g refl is
+
+pub choice_local : {A S : Type 0} (cs : List Class) (p q : List Placed → Read A) → Localizes S p → Localizes S q → Localizes S (λ ts. if begins_in cs ts then p ts else q ts)
+choice_local {A} {S} cs p q lp lq k l = record { within = within; same = same; }
+  where
+    within : (ts rest : List Placed) → and_then (if begins_in cs ts then p ts else q ts) k ≡ Err rest → (u : List Placed) × (ts ≡ u ++ rest)
+    within ts rest e =
+      by_choice (begins_in cs ts) (p ts) (q ts) k (Err rest) ((u : List Placed) × (ts ≡ u ++ rest)) e (λ _ e1. (lp k l).within ts rest e1) (λ _ e1. (lq k l).within ts rest e1)
+
+    same : (u w z : List Placed) (x : Placed) → and_then (if begins_in cs (u ++ x ∷ w) then p (u ++ x ∷ w) else q (u ++ x ∷ w)) k ≡ Err (x ∷ w) → and_then (if begins_in cs (u ++ x ∷ z) then p (u ++ x ∷ z) else q (u ++ x ∷ z)) k ≡ Err (x ∷ z)
+    same u w z x e =
+      by_choice (begins_in cs (u ++ x ∷ w)) (p (u ++ x ∷ w)) (q (u ++ x ∷ w)) k (Err (x ∷ w)) (and_then (if begins_in cs (u ++ x ∷ z) then p (u ++ x ∷ z) else q (u ++ x ∷ z)) k ≡ Err (x ∷ z)) e
+      (λ is e1.
+        let is' : begins_in cs (u ++ x ∷ z) ≡ true = sym (begins_alike cs u w z x) ∙ is in
+        rw is' ((lp k l).same u w z x e1))
+      (λ is e1.
+        let is' : begins_in cs (u ++ x ∷ z) ≡ false = sym (begins_alike cs u w z x) ∙ is in
+        rw is' ((lq k l).same u w z x e1))
+
+along_local : {A S : Type 0} (p q : List Placed → Read A) → ((ts : List Placed) → p ts ≡ q ts) → Localizes S p → Localizes S q
+along_local p q along lp k l = local_along (λ ts. and_then (p ts) k) (λ ts. and_then (q ts) k) (λ ts. ap (λ r. and_then r k) (along ts)) (lp k l)
+
+many_local : {A S : Type 0} (cs : List Class) (p : List Placed → Read A) → Localizes S p → (n : ℕ) → Localizes S (read_many cs p n)
+many_local cs p lp zero = pure_local []
+many_local cs p lp (suc n) =
+    choice_local cs (λ ts. and_then (p ts) (λ a rest. and_then (read_many cs p n rest) (λ as_ rest'. Ok (a ∷ as_, rest')))) (λ ts. Ok ([], ts)) (then_local p (λ a rest. and_then (read_many cs p n rest) (λ as_ rest'. Ok (a ∷ as_, rest'))) lp (λ a. then_local (read_many cs p n) (λ as_ rest'. Ok (a ∷ as_, rest')) (many_local cs p lp n) (λ as_. pure_local (a ∷ as_)))) (pure_local [])
+
+-- a mark and what stands behind it
+behind_mark : {A : Type 0} (b : _) (f y : List Placed → Read A) (ts : List Placed) → (if begins_in (marks b ∷ []) ts then and_then (read_one (mark b) ts) (λ _ rest. f rest) else y ts) ≡ (if begins_in (marks b ∷ []) ts then f (behind ts) else y ts)
+behind_mark {A} b f y ts = by_test' (begins_in (marks b ∷ []) ts) refl
+  where
+    by_test' : (e : Bool) → begins_in (marks b ∷ []) ts ≡ e → (if e then and_then (read_one (mark b) ts) (λ _ rest. f rest) else y ts) ≡ (if e then f (behind ts) else y ts)
+    by_test' false is = refl
+    by_test' true is =
+      let x = mark_split b ts is in
+      let read_is : read_one (mark b) ts ≡ Ok (tt, behind ts) = ap (read_one (mark b)) x.1 ∙ ap (λ o. one_of o x.0 (behind ts)) x.2 in
+      rw read_is refl
+
+commas_step : {A B S : Type 0} (cs : List Class) (p : List Placed → Read A) (q : List Placed → Read B) → Localizes S p → Localizes S q → (n : ℕ) → Localizes S (read_commas cs p q n) → Localizes S (read_commas cs p q (suc n))
+commas_step {A} {B} {S} cs p q lp lq n others =
+    along_local (λ ts. if begins_in (marks m.Comma ∷ []) ts then and_then (read_one (mark m.Comma) ts) (λ _ rest. inner rest) else Ok (([], None), ts)) (read_commas cs p q (suc n)) (λ ts. behind_mark m.Comma inner (λ ts'. Ok (([], None), ts')) ts) (choice_local (marks m.Comma ∷ []) (λ ts. and_then (read_one (mark m.Comma) ts) (λ _ rest. inner rest)) (λ ts. Ok (([], None), ts)) (then_local (read_one (mark m.Comma)) (λ _ rest. inner rest) (read_one_local (mark m.Comma)) (λ _. inner_local)) (pure_local ([], None)))
+  where
+    inner : List Placed → Read (List A × Option B)
+    inner ts =
+      if begins_in cs ts then and_then (q ts) (λ b rest. Ok (([], Some b), rest)) else and_then (p ts) (λ a rest. and_then (read_commas cs p q n rest) (λ c rest'. Ok ((a ∷ c.0, c.1), rest')))
+
+    inner_local : Localizes S inner
+    inner_local =
+      choice_local cs (λ ts. and_then (q ts) (λ b rest. Ok (([], Some b), rest))) (λ ts. and_then (p ts) (λ a rest. and_then (read_commas cs p q n rest) (λ c rest'. Ok ((a ∷ c.0, c.1), rest')))) (then_local q (λ b rest. Ok (([], Some b), rest)) lq (λ b. pure_local ([], Some b))) (then_local p (λ a rest. and_then (read_commas cs p q n rest) (λ c rest'. Ok ((a ∷ c.0, c.1), rest'))) lp (λ a. then_local (read_commas cs p q n) (λ c rest'. Ok ((a ∷ c.0, c.1), rest')) others (λ c. pure_local (a ∷ c.0, c.1))))
+
+commas_local : {A B S : Type 0} (cs : List Class) (p : List Placed → Read A) (q : List Placed → Read B) → Localizes S p → Localizes S q → (n : ℕ) → Localizes S (read_commas cs p q n)
+commas_local cs p q lp lq zero = pure_local ([], None)
+commas_local cs p q lp lq (suc n) = commas_step cs p q lp lq n (commas_local cs p q lp lq n)
+
+abbrev pub InnerLocal : Type 0 → Option (List Placed → Read Expr) → Type 0
+InnerLocal S None = Unit {0}
+InnerLocal S (Some f) = Localizes S f
+
+enclosed_local : {S : Type 0} (r : Option (List Placed → Read Expr)) (p : List Placed → Read Expr) → InnerLocal S r → Localizes S p → Localizes S (read_enclosed r p)
+enclosed_local None p inner lp = lp
+enclosed_local {S} (Some f) p inner lp =
+    along_local (λ ts. if begins_in (marks m.Open ∷ []) ts then and_then (read_one (mark m.Open) ts) (λ _ rest. body rest) else p ts) (read_enclosed (Some f) p) (λ ts. behind_mark m.Open body p ts) (choice_local (marks m.Open ∷ []) (λ ts. and_then (read_one (mark m.Open) ts) (λ _ rest. body rest)) p (then_local (read_one (mark m.Open)) (λ _ rest. body rest) (read_one_local (mark m.Open)) (λ _. body_local)) lp)
+  where
+    body : List Placed → Read Expr
+    body ts = and_then (f ts) (λ e rest. and_then (read_one (mark m.Close) rest) (λ _ rest'. Ok (e, rest')))
+
+    body_local : Localizes S body
+    body_local =
+      then_local f (λ e rest. and_then (read_one (mark m.Close) rest) (λ _ rest'. Ok (e, rest'))) inner (λ e. then_local (read_one (mark m.Close)) (λ _ rest'. Ok (e, rest')) (read_one_local (mark m.Close)) (λ _. pure_local e))
+
+-- where reading stops depends on the tokens up to that one alone
+pub local : {S : Type 0} (most : ℕ) (r : Option (List Placed → Read Expr)) → InnerLocal S r → {A : Type 0} (g : Grammar A) → Localizes S (read most r g)
+local most r inner (terminal t) = read_one_local t
+local most r inner (empty a) = pure_local a
+local most r inner (made g f) = then_local (read most r g) (λ a rest. Ok (f a, rest)) (local most r inner g) (λ a. pure_local (f a))
+local most r inner (both g h) =
+    then_local (read most r g) (λ a rest. and_then (read most r h rest) (λ b rest'. Ok ((a, b), rest'))) (local most r inner g) (λ a. then_local (read most r h) (λ b rest'. Ok ((a, b), rest')) (local most r inner h) (λ b. pure_local (a, b)))
+local most r inner (either g h) = choice_local (firsts g) (read most r g) (read most r h) (local most r inner g) (local most r inner h)
+local most r inner (many g) = many_local (firsts g) (read most r g) (local most r inner g) most
+local most r inner (commas g h) = commas_local (firsts h) (read most r g) (read most r h) (local most r inner g) (local most r inner h) most
+local most r inner (outermost g) = local most r inner g
+local most r inner (or_enclosed g) = enclosed_local r (read most r g) inner (local most r inner g)

@@ -2,4 +2,5 @@ pub mod Begins
 pub mod Laws
 pub mod Completeness
 pub mod Faults
+pub mod Limits
 pub mod Loops
