@@ -82,6 +82,10 @@ mark_text Equal = codes "="
 mark_text Below = codes "<"
 mark_text Above = codes ">"
 
+-- the marks are written alike, so they are the same
+abbrev pub same_mark : Mark → Mark → Bool
+same_mark a b = bytes_eq (mark_text a) (mark_text b)
+
 -- the words that are no names
 abbrev pub keywords : List Mark
 keywords =

@@ -3,11 +3,15 @@
 
 mod cutting;
 mod deeds;
+mod expression_text;
 mod expressions;
 mod faults;
 mod marks;
+mod printed;
+mod printer;
 mod queries;
 mod rules;
+mod statement_text;
 mod statements;
 mod token_types;
 
@@ -25,3 +29,6 @@ pub use rules::{
 };
 pub use statements::Statement;
 pub use token_types::{Digits, Placed, Token, TokenList};
+
+#[cfg(test)]
+mod tests;

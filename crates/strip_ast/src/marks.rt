@@ -1,7 +1,7 @@
 ghost use Rattle.std.specs.Prelude.{◌≡◌, find};
 ghost use Rattle.std.specs.List.{starts_with};
 ghost use Rattle.std.specs.Str.{bytes_eq};
-ghost use Rattle.strip_ast.specs.Marks.{mark_text, keyword_of, symbol_of, nat_eq};
+ghost use Rattle.strip_ast.specs.Marks.{mark_text, keyword_of, symbol_of, same_mark, nat_eq};
 
 /// A keyword or a symbol.
 #[derive(Clone, Copy, Debug, PartialEq, Eq)]
@@ -236,6 +236,13 @@ impl Mark {
             Mark::Below => b"<",
             Mark::Above => b">",
         }
+    }
+
+    /// Whether this is the other mark.
+    pub fn is(self, other: Mark) -> bool
+        ensures { result ≡ same_mark self other }
+    {
+        self.text() == other.text()
     }
 }
 

@@ -1,0 +1,5 @@
+-- How statements are read.
+pub mod Deciding
+pub mod Reading
+pub mod Taking
+pub mod Parsed
