@@ -33,3 +33,46 @@ not_built_yet = refl
 pub one_is_refused : is_refused (codes "table t (a int, key a); ready; drop t;") ≡ true
 unfolding pieces tuple_text keyword_of symbol_of token_at tokens_of effect line_of_reply order_of order_in step is_refused digits
 one_is_refused = refl
+
+pub nothing_is_refused : is_refused [] ≡ false
+unfolding pieces is_refused
+nothing_is_refused = refl
+
+pub no_put_is_refused : is_refused (codes "table t (a int, key a); ready; put t (1); show t;") ≡ false
+unfolding pieces tuple_text keyword_of symbol_of token_at tokens_of effect line_of_reply order_of order_in step is_refused digits is_utf8 chars encode_utf8
+no_put_is_refused = refl
+
+-- a last piece without its `;` has no form
+pub unended :
+    answer (codes "table t (a int, key a); ready; show t")
+    ≡ codes "ok\nok\nrefused NotBuilt\n"
+unfolding pieces tuple_text keyword_of symbol_of token_at tokens_of effect line_of_reply order_of order_in step answer digits is_utf8 chars encode_utf8
+unended = refl
+
+-- rows stand in the order of the key's columns, which may be another than that of the columns
+pub two_keys :
+    answer (codes "table t (a int, b int, key b, a); ready; put t (1, 2); put t (2, -1); show t;")
+    ≡ codes "ok\nok\ncount 1\ncount 1\nrows 2\n(2, -1)\n(1, 2)\n"
+unfolding pieces tuple_text keyword_of symbol_of token_at tokens_of effect line_of_reply order_of order_in step answer digits is_utf8 chars encode_utf8
+two_keys = refl
+
+-- a row that isn't of the table's columns has no form
+pub no_fit :
+    answer (codes "table t (a int, key a); ready; put t ('1'); put t (2147483648); put t (1, 2); show t;")
+    ≡ codes "ok\nok\nrefused NotBuilt\nrefused NotBuilt\nrefused NotBuilt\nrows 0\n"
+unfolding pieces tuple_text keyword_of symbol_of token_at tokens_of effect line_of_reply order_of order_in step answer digits is_utf8 chars encode_utf8
+no_fit = refl
+
+-- each statement has its stage
+pub out_of_turn :
+    answer (codes "show t; ready; table t (a int, key a); table u (a int, key a); put t (1); ready; ready;")
+    ≡ codes "refused NotBuilt\nrefused NotBuilt\nok\nrefused NotBuilt\nrefused NotBuilt\nok\nrefused NotBuilt\n"
+unfolding pieces tuple_text keyword_of symbol_of token_at tokens_of effect line_of_reply order_of order_in step answer digits is_utf8 chars encode_utf8
+out_of_turn = refl
+
+-- a table needs a key among its columns, which differ
+pub no_tables :
+    answer (codes "table t (a int); table t (a int, key b); table t (a int, a int, key a); table t (a int, key a) limit 5;")
+    ≡ codes "refused NotBuilt\nrefused NotBuilt\nrefused NotBuilt\nrefused NotBuilt\n"
+unfolding pieces tuple_text keyword_of symbol_of token_at tokens_of effect line_of_reply order_of order_in step answer digits is_utf8 chars encode_utf8
+no_tables = refl

@@ -6,7 +6,7 @@ ghost use Rattle.strip_model.specs.History.{live};
 ghost use Rattle.strip_model.specs.Legal.{Names};
 
 use std::alloc::AllocError;
-use strip_engine::Engine;
+use strip_engine::{ActFault, BeginError, CommitError, Engine};
 use strip_value::{Act, Reply};
 
 /// Begins a transaction of caller 0, does the act, and commits it at moment 0, or undoes it where the act was refused.
@@ -16,20 +16,21 @@ pub(crate) fn act_alone(engine: &mut Engine, act: &Act) -> Result<Reply, AllocEr
     ensures { ActsAlone engine.old act.now engine.new result }
 {
     let session = begin_for(engine, act)?;
-    let Ok(reply) = engine.act(session, act) else {
-        return Err(AllocError);
+    let reply = match engine.act(session, act) {
+        Ok(reply) => reply,
+        Err(ActFault::Memory) => return Err(AllocError),
+        Err(ActFault::NoSession { session: _ }) => unreachable!(),
     };
     match &reply {
-        Reply::Refused(_cause) => {
-            let Ok(()) = engine.undo(session) else {
-                return Err(AllocError);
-            };
-        }
-        _ => {
-            let Ok(_fired) = engine.commit(session, 0) else {
-                return Err(AllocError);
-            };
-        }
+        Reply::Refused(_cause) => match engine.undo(session) {
+            Ok(()) => {}
+            Err(_none) => unreachable!(),
+        },
+        _ => match engine.commit(session, 0) {
+            Ok(_fired) => {}
+            Err(CommitError::Memory) => return Err(AllocError),
+            Err(_other) => unreachable!(),
+        },
     }
     Ok(reply)
 }
@@ -44,6 +45,7 @@ fn begin_for(engine: &mut Engine, act: &Act) -> Result<u64, AllocError>
     };
     match begun {
         Ok(session) => Ok(session),
-        Err(_) => Err(AllocError),
+        Err(BeginError::Memory) => Err(AllocError),
+        Err(_other) => unreachable!(),
     }
 }
