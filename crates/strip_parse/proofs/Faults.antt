@@ -215,19 +215,19 @@ by_choice true x y k r P is f g = f refl is
 by_choice false x y k r P is f g = g refl is
 
 pub choice_local : {A S : Type 0} (cs : List Class) (p q : List Placed → Read A) → Localizes S p → Localizes S q → Localizes S (λ ts. if begins_in cs ts then p ts else q ts)
-choice_local {A} {S} cs p q lp lq k l = record { within = within; same = same; }
+choice_local {A} {S} cs p q lp lq k l = record { within = within; same = same }
   where
     within : (ts rest : List Placed) → and_then (if begins_in cs ts then p ts else q ts) k ≡ Err rest → (u : List Placed) × (ts ≡ u ++ rest)
     within ts rest e =
-      by_choice (begins_in cs ts) (p ts) (q ts) k (Err rest) ((u : List Placed) × (ts ≡ u ++ rest)) e (λ _ e1. (lp k l).within ts rest e1) (λ _ e1. (lq k l).within ts rest e1)
+        by_choice (begins_in cs ts) (p ts) (q ts) k (Err rest) ((u : List Placed) × (ts ≡ u ++ rest)) e (λ _ e1. (lp k l).within ts rest e1) (λ _ e1. (lq k l).within ts rest e1)
 
     same : (u w z : List Placed) (x : Placed) → and_then (if begins_in cs (u ++ x ∷ w) then p (u ++ x ∷ w) else q (u ++ x ∷ w)) k ≡ Err (x ∷ w) → and_then (if begins_in cs (u ++ x ∷ z) then p (u ++ x ∷ z) else q (u ++ x ∷ z)) k ≡ Err (x ∷ z)
     same u w z x e =
-      by_choice (begins_in cs (u ++ x ∷ w)) (p (u ++ x ∷ w)) (q (u ++ x ∷ w)) k (Err (x ∷ w)) (and_then (if begins_in cs (u ++ x ∷ z) then p (u ++ x ∷ z) else q (u ++ x ∷ z)) k ≡ Err (x ∷ z)) e
-      (λ is e1.
+        by_choice (begins_in cs (u ++ x ∷ w)) (p (u ++ x ∷ w)) (q (u ++ x ∷ w)) k (Err (x ∷ w)) (and_then (if begins_in cs (u ++ x ∷ z) then p (u ++ x ∷ z) else q (u ++ x ∷ z)) k ≡ Err (x ∷ z)) e
+        (λ is e1.
         let is' : begins_in cs (u ++ x ∷ z) ≡ true = sym (begins_alike cs u w z x) ∙ is in
         rw is' ((lp k l).same u w z x e1))
-      (λ is e1.
+        (λ is e1.
         let is' : begins_in cs (u ++ x ∷ z) ≡ false = sym (begins_alike cs u w z x) ∙ is in
         rw is' ((lq k l).same u w z x e1))
 
@@ -246,9 +246,9 @@ behind_mark {A} b f y ts = by_test' (begins_in (marks b ∷ []) ts) refl
     by_test' : (e : Bool) → begins_in (marks b ∷ []) ts ≡ e → (if e then and_then (read_one (mark b) ts) (λ _ rest. f rest) else y ts) ≡ (if e then f (behind ts) else y ts)
     by_test' false is = refl
     by_test' true is =
-      let x = mark_split b ts is in
-      let read_is : read_one (mark b) ts ≡ Ok (tt, behind ts) = ap (read_one (mark b)) x.1 ∙ ap (λ o. one_of o x.0 (behind ts)) x.2 in
-      rw read_is refl
+        let x = mark_split b ts is in
+        let read_is : read_one (mark b) ts ≡ Ok (tt, behind ts) = ap (read_one (mark b)) x.1 ∙ ap (λ o. one_of o x.0 (behind ts)) x.2 in
+        rw read_is refl
 
 commas_step : {A B S : Type 0} (cs : List Class) (p : List Placed → Read A) (q : List Placed → Read B) → Localizes S p → Localizes S q → (n : ℕ) → Localizes S (read_commas cs p q n) → Localizes S (read_commas cs p q (suc n))
 commas_step {A} {B} {S} cs p q lp lq n others =
@@ -256,11 +256,11 @@ commas_step {A} {B} {S} cs p q lp lq n others =
   where
     inner : List Placed → Read (List A × Option B)
     inner ts =
-      if begins_in cs ts then and_then (q ts) (λ b rest. Ok (([], Some b), rest)) else and_then (p ts) (λ a rest. and_then (read_commas cs p q n rest) (λ c rest'. Ok ((a ∷ c.0, c.1), rest')))
+        if begins_in cs ts then and_then (q ts) (λ b rest. Ok (([], Some b), rest)) else and_then (p ts) (λ a rest. and_then (read_commas cs p q n rest) (λ c rest'. Ok ((a ∷ c.0, c.1), rest')))
 
     inner_local : Localizes S inner
     inner_local =
-      choice_local cs (λ ts. and_then (q ts) (λ b rest. Ok (([], Some b), rest))) (λ ts. and_then (p ts) (λ a rest. and_then (read_commas cs p q n rest) (λ c rest'. Ok ((a ∷ c.0, c.1), rest')))) (then_local q (λ b rest. Ok (([], Some b), rest)) lq (λ b. pure_local ([], Some b))) (then_local p (λ a rest. and_then (read_commas cs p q n rest) (λ c rest'. Ok ((a ∷ c.0, c.1), rest'))) lp (λ a. then_local (read_commas cs p q n) (λ c rest'. Ok ((a ∷ c.0, c.1), rest')) others (λ c. pure_local (a ∷ c.0, c.1))))
+        choice_local cs (λ ts. and_then (q ts) (λ b rest. Ok (([], Some b), rest))) (λ ts. and_then (p ts) (λ a rest. and_then (read_commas cs p q n rest) (λ c rest'. Ok ((a ∷ c.0, c.1), rest')))) (then_local q (λ b rest. Ok (([], Some b), rest)) lq (λ b. pure_local ([], Some b))) (then_local p (λ a rest. and_then (read_commas cs p q n rest) (λ c rest'. Ok ((a ∷ c.0, c.1), rest'))) lp (λ a. then_local (read_commas cs p q n) (λ c rest'. Ok ((a ∷ c.0, c.1), rest')) others (λ c. pure_local (a ∷ c.0, c.1))))
 
 commas_local : {A B S : Type 0} (cs : List Class) (p : List Placed → Read A) (q : List Placed → Read B) → Localizes S p → Localizes S q → (n : ℕ) → Localizes S (read_commas cs p q n)
 commas_local cs p q lp lq zero = pure_local ([], None)
@@ -280,7 +280,7 @@ enclosed_local {S} (Some f) p inner lp =
 
     body_local : Localizes S body
     body_local =
-      then_local f (λ e rest. and_then (read_one (mark m.Close) rest) (λ _ rest'. Ok (e, rest'))) inner (λ e. then_local (read_one (mark m.Close)) (λ _ rest'. Ok (e, rest')) (read_one_local (mark m.Close)) (λ _. pure_local e))
+        then_local f (λ e rest. and_then (read_one (mark m.Close) rest) (λ _ rest'. Ok (e, rest'))) inner (λ e. then_local (read_one (mark m.Close)) (λ _ rest'. Ok (e, rest')) (read_one_local (mark m.Close)) (λ _. pure_local e))
 
 -- where reading stops depends on the tokens up to that one alone
 pub local : {S : Type 0} (most : ℕ) (r : Option (List Placed → Read Expr)) → InnerLocal S r → {A : Type 0} (g : Grammar A) → Localizes S (read most r g)

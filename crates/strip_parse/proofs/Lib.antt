@@ -4,3 +4,4 @@ pub mod Completeness
 pub mod Faults
 pub mod Limits
 pub mod Loops
+pub mod Exact

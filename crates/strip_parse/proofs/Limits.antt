@@ -106,3 +106,179 @@ shrinks most r inner (commas g h) ts =
     commas_shrinks (firsts h) (read most r g) (read most r h) (λ ts'. shrinks most r inner g ts') (λ ts'. shrinks most r inner h ts') most ts
 shrinks most r inner (outermost g) ts = shrinks most r inner g ts
 shrinks most r inner (or_enclosed g) ts = enclosed_shrinks r (read most r g) inner (λ ts'. shrinks most r inner g ts') ts
+
+-- ---- with limits against without
+
+one_fits : {A : Type 0} (t : Terminal A) (s : State) (p : Placed) (ps : List Placed) → s.left ≡ p ∷ ps → (o : Option A) → takes t p.token ≡ o → Fits s.left s.most (one_of o p ps) (limited_one t o s ps)
+one_fits t s p ps left None is = ap Err (sym left)
+one_fits (operator a) s p ps left (Some x) is = by_room (nat_lt s.operators 256)
+  where
+    by_room : (b : Bool) → Fits s.left s.most (one_of (Some x) p ps) (if b then Ok (x, with_operator s ps) else halted why.TooDeep s.left)
+    by_room true = (refl, refl)
+    by_room false = (rw left (omega arith), ([], refl))
+one_fits caller s p ps left (Some n) is = by_size (nat_le n 4294967295)
+  where
+    by_size : (b : Bool) → Fits s.left s.most (one_of (Some n) p ps) (if b then Ok (n, with_left s ps) else halted why.TooLong s.left)
+    by_size true = (refl, refl)
+    by_size false = (rw left (omega arith), ([], refl))
+one_fits (mark a) s p ps left (Some x) is = (refl, refl)
+one_fits name s p ps left (Some x) is = (refl, refl)
+one_fits number s p ps left (Some x) is = (refl, refl)
+one_fits text s p ps left (Some x) is = (refl, refl)
+
+from_fits : {A : Type 0} (t : Terminal A) (s : State) (ts : List Placed) → s.left ≡ ts → Fits s.left s.most (read_one t ts) (take_from t s ts)
+from_fits t s [] left = refl
+from_fits t s (p ∷ ps) left = one_fits t s p ps left (takes t p.token) refl
+
+pub take_one_fits : {A : Type 0} (t : Terminal A) (s : State) → Fits s.left s.most (read_one t s.left) (take_one t s)
+take_one_fits t s = from_fits t s s.left refl
+
+past_along : {A : Type 0} (far m : List Placed) (r : Read A) → length m < length far → Ends m r → Past far r
+past_along far m (Ok (a, rest)) less e = omega (arith, ap length e.1, length-append e.0 rest)
+past_along far m (Err rest) less e = omega (arith, ap length e.1, length-append e.0 rest)
+
+past_then : {A B : Type 0} (far : List Placed) (r : Read A) (k : A → List Placed → Read B) → Past far r → ((a : A) → Shrinks (k a)) → Past far (and_then r k)
+past_then far (Ok (a, rest)) k less f = past_along far rest (k a rest) less (f a rest)
+past_then far (Err rest) k less f = less
+
+why_then : {A B : Type 0} (ts : List Placed) (r : Read A) (k : A → List Placed → Read B) (w : Why) (rest : List Placed) → FitsWhy ts r w rest → ((a : A) → Shrinks (k a)) → FitsWhy ts (and_then r k) w rest
+why_then ts r k why.Unexpected rest is f = rw is refl
+why_then ts r k why.NoToken rest is f = (past_then rest r k is.0 f, is.1)
+why_then ts r k why.TooLong rest is f = (past_then rest r k is.0 f, is.1)
+why_then ts r k why.TooDeep rest is f = (past_then rest r k is.0 f, is.1)
+why_then ts r k why.Ended rest is f = (past_then rest r k is.0 f, is.1)
+
+why_further : {A : Type 0} (ts m : List Placed) (r : Read A) (w : Why) (rest : List Placed) → IsEnd ts m → FitsWhy m r w rest → FitsWhy ts r w rest
+why_further ts m r why.Unexpected rest e is = is
+why_further ts m r why.NoToken rest e is = (is.0, is_end ts m rest e is.1)
+why_further ts m r why.TooLong rest e is = (is.0, is_end ts m rest e is.1)
+why_further ts m r why.TooDeep rest e is = (is.0, is_end ts m rest e is.1)
+why_further ts m r why.Ended rest e is = (is.0, is_end ts m rest e is.1)
+
+fits_further : {A : Type 0} (ts m : List Placed) (most : ℕ) (r : Read A) (o : Out A) → IsEnd ts m → Fits m most r o → Fits ts most r o
+fits_further ts m most r (Ok (a, s)) e is = is
+fits_further ts m most r (Err halt) e is = why_further ts m r halt.why halt.left e is
+
+ends_of_ok : {A : Type 0} (ts : List Placed) (r : Read A) (a : A) (m : List Placed) → Ends ts r → r ≡ Ok (a, m) → IsEnd ts m
+ends_of_ok ts r a m e is = rw is at e
+
+-- one after the other
+then_fits : {A B : Type 0} (ts : List Placed) (most : ℕ) (r : Read A) (o : Out A) (k : A → List Placed → Read B) (l : A → State → Out B) → Ends ts r → Fits ts most r o → ((a : A) → Shrinks (k a)) → ((a : A) (s : State) → r ≡ Ok (a, s.left) → s.most ≡ most → Fits s.left most (k a s.left) (l a s)) → Fits ts most (and_then r k) (out_then o l)
+then_fits ts most r (Ok (a, s)) k l e is f next = rw is.0 (fits_further ts s.left most (k a s.left) (l a s) (ends_of_ok ts r a s.left e is.0) (next a s is.0 is.1))
+then_fits ts most r (Err halt) k l e is f next = why_then ts r k halt.why halt.left is f
+
+choice_fits : {A : Type 0} (ts : List Placed) (most : ℕ) (b : Bool) (x y : Read A) (o p : Out A) → (b ≡ true → Fits ts most x o) → (b ≡ false → Fits ts most y p) → Fits ts most (if b then x else y) (if b then o else p)
+choice_fits ts most true x y o p f g = f refl
+choice_fits ts most false x y o p f g = g refl
+
+pure_fits : {A : Type 0} (ts : List Placed) (a : A) (s : State) (most : ℕ) → s.most ≡ most → Fits ts most (Ok (a, s.left)) (Ok (a, s))
+pure_fits ts a s most same = (refl, same)
+
+-- at each state of so many turns
+abbrev pub FitsAll : {A : Type 0} → ℕ → (List Placed → Read A) → (State → Out A) → Type 0
+FitsAll most p q = (s : State) → s.most ≡ most → length s.left ≤ most → Fits s.left most (p s.left) (q s)
+
+abbrev pub Consumes : {A : Type 0} → List Class → (List Placed → Read A) → Type 0
+Consumes cs p = (ts rest : List Placed) (a : _) → begins_in cs ts ≡ true → p ts ≡ Ok (a, rest) → length rest < length ts
+
+begins_nothing : (cs : List Class) (ts : List Placed) → length ts ≤ 0 → begins_in cs ts ≡ false
+begins_nothing cs [] few = refl
+begins_nothing cs (p ∷ ps) few = absurd (omega arith)
+
+many_fits : {A : Type 0} (most : ℕ) (cs : List Class) (p : List Placed → Read A) (q : State → Out A) → Shrinks p → Consumes cs p → FitsAll most p q → (n k : ℕ) (s : State) → s.most ≡ most → length s.left ≤ most → length s.left ≤ n → length s.left ≤ k → Fits s.left most (read_many cs p k s.left) (take_many cs q n s)
+many_fits most cs p q f c fit zero zero s same len few few' = (refl, same)
+many_fits most cs p q f c fit zero (suc k) s same len few few' =
+    let gone : begins_in cs s.left ≡ false = begins_nothing cs s.left few in
+    rw gone (refl, same)
+many_fits most cs p q f c fit (suc n) zero s same len few few' =
+    let gone : begins_in cs s.left ≡ false = begins_nothing cs s.left few' in
+    rw gone (refl, same)
+many_fits most cs p q f c fit (suc n) (suc k) s same len few few' =
+    choice_fits s.left most (begins_in cs s.left) _ _ _ _
+    (λ here. then_fits s.left most (p s.left) (q s) _ _ (f s.left) (fit s same len) (λ a rest. then_ends rest (read_many cs p k rest) _ (many_shrinks cs p f k rest) (λ as_ ts'. ([], refl)))
+    (λ a s' is same'.
+    let less = c s.left s'.left a here is in
+    then_fits s'.left most (read_many cs p k s'.left) (take_many cs q n s') _ _ (many_shrinks cs p f k s'.left) (many_fits most cs p q f c fit n k s' same' (omega (arith, less, len)) (omega (arith, less, few)) (omega (arith, less, few'))) (λ as_ ts'. ([], refl)) (λ as_ s'' is' same''. (refl, same''))))
+    (λ _. (refl, same))
+
+behind_less : (b : _) (ts : List Placed) → begins_in (marks b ∷ []) ts ≡ true → length (behind ts) < length ts
+behind_less b [] is = cc
+behind_less b (p ∷ ps) is = omega arith
+
+end_length : (ts m : List Placed) → IsEnd ts m → length m ≤ length ts
+end_length ts m e = omega (arith, ap length e.1, length-append e.0 m)
+
+commas_fits : {A B : Type 0} (most : ℕ) (cs : List Class) (p : List Placed → Read A) (q : List Placed → Read B) (p' : State → Out A) (q' : State → Out B) → Shrinks p → Shrinks q → FitsAll most p p' → FitsAll most q q' → (n k : ℕ) (s : State) → s.most ≡ most → length s.left ≤ most → length s.left ≤ n → length s.left ≤ k → Fits s.left most (read_commas cs p q k s.left) (take_commas cs p' q' n s)
+commas_fits most cs p q p' q' f g fit fit' zero zero s same len few few' = (refl, same)
+commas_fits most cs p q p' q' f g fit fit' zero (suc k) s same len few few' =
+    let gone : begins_in (marks m.Comma ∷ []) s.left ≡ false = begins_nothing (marks m.Comma ∷ []) s.left few in
+    rw gone (refl, same)
+commas_fits most cs p q p' q' f g fit fit' (suc n) zero s same len few few' =
+    let gone : begins_in (marks m.Comma ∷ []) s.left ≡ false = begins_nothing (marks m.Comma ∷ []) s.left few' in
+    rw gone (refl, same)
+commas_fits most cs p q p' q' f g fit fit' (suc n) (suc k) s same len few few' =
+    choice_fits s.left most (begins_in (marks m.Comma ∷ []) s.left) _ _ _ _
+    (λ comma.
+    let less = behind_less m.Comma s.left comma in
+    choice_fits s.left most (begins_in cs (behind s.left)) _ _ _ _
+    (λ _. fits_further s.left (behind s.left) most _ _ (behind_end s.left) (then_fits (behind s.left) most (q (behind s.left)) (q' (past_one s)) _ _ (g (behind s.left)) (fit' (past_one s) same (omega (arith, less, len))) (λ b ts'. ([], refl)) (λ b s' is same'. (refl, same'))))
+    (λ _. fits_further s.left (behind s.left) most _ _ (behind_end s.left) (then_fits (behind s.left) most (p (behind s.left)) (p' (past_one s)) _ _ (f (behind s.left)) (fit (past_one s) same (omega (arith, less, len))) (λ a rest. then_ends rest (read_commas cs p q k rest) _ (commas_shrinks cs p q f g k rest) (λ c ts'. ([], refl)))
+    (λ a s' is same'.
+    let shorter = end_length (behind s.left) s'.left (ends_of_ok (behind s.left) (p (behind s.left)) a s'.left (f (behind s.left)) is) in
+    then_fits s'.left most (read_commas cs p q k s'.left) (take_commas cs p' q' n s') _ _ (commas_shrinks cs p q f g k s'.left) (commas_fits most cs p q p' q' f g fit fit' n k s' same' (omega (arith, less, shorter, len)) (omega (arith, less, shorter, few)) (omega (arith, less, shorter, few'))) (λ c ts'. ([], refl)) (λ c s'' is' same''. (refl, same''))))))
+    (λ _. (refl, same))
+
+-- without limits at least one more parenthesis may be open than with them
+abbrev pub InnerFits : ℕ → Option (State → Out Expr) → Option (List Placed → Read Expr) → Type 0
+InnerFits most None (Some f) = Shrinks f
+InnerFits most (Some l) (Some f) = Shrinks f × FitsAll most f l
+InnerFits most _ None = ⊥
+
+enclosed_fits : (most : ℕ) (l : Option (State → Out Expr)) (r : Option (List Placed → Read Expr)) (p : List Placed → Read Expr) (q : State → Out Expr) → InnerFits most l r → FitsAll most p q → FitsAll most (read_enclosed r p) (take_enclosed l q)
+enclosed_fits most None None p q inner fit s same len = absurd inner
+enclosed_fits most (Some l) None p q inner fit s same len = absurd inner
+enclosed_fits most None (Some f) p q inner fit s same len =
+    choice_fits s.left most (begins_in (marks m.Open ∷ []) s.left) _ _ _ _
+    (λ here. (past_along s.left (behind s.left) _ (behind_less m.Open s.left here) (then_ends (behind s.left) (f (behind s.left)) _ (inner (behind s.left)) close_shrinks), ([], refl)))
+    (λ _. fit s same len)
+enclosed_fits most (Some l) (Some f) p q inner fit s same len =
+    choice_fits s.left most (begins_in (marks m.Open ∷ []) s.left) _ _ _ _
+    (λ here.
+    let less = behind_less m.Open s.left here in
+    fits_further s.left (behind s.left) most _ _ (behind_end s.left) (then_fits (behind s.left) most (f (behind s.left)) (l (past_one s)) _ _ (inner.0 (behind s.left)) (inner.1 (past_one s) same (omega (arith, less, len))) close_shrinks
+    (λ e s' is same'. then_fits s'.left most (read_one (mark m.Close) s'.left) (take_one (mark m.Close) s') _ _ (read_one_shrinks (mark m.Close) s'.left) (subst (λ n. Fits s'.left n (read_one (mark m.Close) s'.left) (take_one (mark m.Close) s')) same' (take_one_fits (mark m.Close) s')) (λ _ ts'. ([], refl)) (λ _ s'' is' same''. (refl, same'')))))
+    (λ _. fit s same len)
+
+consumes : (I : List Placed → Expr → Type 0) (k : ℕ) (r : Option (List Placed → Read Expr)) → InnerSound I r → {A : Type 0} (g : Grammar A) → is_decided g ≡ true → nullable g ≡ false → (cs : List Class) → Consumes cs (read k r g)
+consumes I k r inner g d some cs ts rest a here is =
+    let u = sound k I r inner g ts rest a is in
+    let begins : begins_in (firsts g) (u.0 ++ []) ≡ true = starts_some (nullable g) (firsts g) u.0 (starts I g d u.0 a u.2) some [] in
+    let long = not_empty (firsts g) (u.0 ++ []) begins in
+    omega (arith, ap length u.1, length-append u.0 rest, length-append u.0 [], long)
+  where
+    not_empty : (cs' : List Class) (xs : List Placed) → begins_in cs' xs ≡ true → 0 < length xs
+    not_empty cs' [] is = cc
+    not_empty cs' (p ∷ ps) is = omega arith
+
+-- reading with limits fits reading without
+pub fits : (I : List Placed → Expr → Type 0) (most k : ℕ) → most ≤ k → (l : Option (State → Out Expr)) (r : Option (List Placed → Read Expr)) → InnerSound I r → InnerShrinks r → InnerFits most l r → {A : Type 0} (g : Grammar A) → is_decided g ≡ true → FitsAll most (read k r g) (take l g)
+fits I most k fewer l r sound' ends inner (terminal t) d s same len =
+    subst (λ n. Fits s.left n (read_one t s.left) (take_one t s)) same (take_one_fits t s)
+fits I most k fewer l r sound' ends inner (empty a) d s same len = (refl, same)
+fits I most k fewer l r sound' ends inner (made g f) d s same len =
+    then_fits s.left most (read k r g s.left) (take l g s) _ _ (shrinks k r ends g s.left) (fits I most k fewer l r sound' ends inner g d s same len) (λ a ts'. ([], refl)) (λ a s' is same'. (refl, same'))
+fits I most k fewer l r sound' ends inner (both g h) d s same len =
+    then_fits s.left most (read k r g s.left) (take l g s) _ _ (shrinks k r ends g s.left) (fits I most k fewer l r sound' ends inner g (both_true _ _ d).0 s same len) (λ a rest. then_ends rest (read k r h rest) _ (shrinks k r ends h rest) (λ b ts'. ([], refl)))
+    (λ a s' is same'.
+    let shorter = end_length s.left s'.left (ends_of_ok s.left (read k r g s.left) a s'.left (shrinks k r ends g s.left) is) in
+    then_fits s'.left most (read k r h s'.left) (take l h s') _ _ (shrinks k r ends h s'.left) (fits I most k fewer l r sound' ends inner h (both_true _ _ (both_true _ _ d).1).0 s' same' (omega (arith, shorter, len))) (λ b ts'. ([], refl)) (λ b s'' is' same''. (refl, same'')))
+fits I most k fewer l r sound' ends inner (either g h) d s same len =
+    choice_fits s.left most (begins_in (firsts g) s.left) _ _ _ _ (λ _. fits I most k fewer l r sound' ends inner g (both_true _ _ d).0 s same len) (λ _. fits I most k fewer l r sound' ends inner h (both_true _ _ (both_true _ _ d).1).0 s same len)
+fits I most k fewer l r sound' ends inner (many g) d s same len =
+    let dg = (both_true _ _ d).0 in
+    many_fits most (firsts g) (read k r g) (take l g) (λ ts'. shrinks k r ends g ts') (consumes I k r sound' g dg (not_true _ (both_true _ _ (both_true _ _ d).1).0) (firsts g)) (λ s' same' len'. fits I most k fewer l r sound' ends inner g dg s' same' len') s.most k s same len (omega (arith, same, len)) (omega (arith, len, fewer))
+fits I most k fewer l r sound' ends inner (commas g h) d s same len =
+    commas_fits most (firsts h) (read k r g) (read k r h) (take l g) (take l h) (λ ts'. shrinks k r ends g ts') (λ ts'. shrinks k r ends h ts') (λ s' same' len'. fits I most k fewer l r sound' ends inner g (both_true _ _ d).0 s' same' len') (λ s' same' len'. fits I most k fewer l r sound' ends inner h (both_true _ _ (both_true _ _ d).1).0 s' same' len') s.most k s same len (omega (arith, same, len)) (omega (arith, len, fewer))
+fits I most k fewer l r sound' ends inner (outermost g) d s same len = fits I most k fewer l r sound' ends inner g d (fresh s) same len
+fits I most k fewer l r sound' ends inner (or_enclosed g) d s same len =
+    enclosed_fits most l r (read k r g) (take l g) inner (λ s' same' len'. fits I most k fewer l r sound' ends inner g (both_true _ _ d).0 s' same' len') s same len

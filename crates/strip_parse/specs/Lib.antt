@@ -3,3 +3,4 @@ pub mod Deciding
 pub mod Reading
 pub mod Taking
 pub mod Parsed
+pub mod Exactness

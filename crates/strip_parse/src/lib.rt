@@ -3,6 +3,7 @@
 
 mod cursor;
 mod deeds;
+mod exactness;
 mod expressions;
 mod lists;
 mod parsing;
@@ -13,4 +14,5 @@ mod statements;
 mod stops;
 mod words;
 
+pub use exactness::reads_exactly;
 pub use parsing::parse;
