@@ -7,7 +7,8 @@ use std::thread::Threads;
 use strip_engine::Limits;
 use strip_outside::{Clock, FreeGate, HostFiles, MemorySink, MemorySource};
 
-const STOCKS: &[u8] = b"table stocks (symbol text, price int, key symbol); ready; put stocks ('IBM', 100); put stocks ('IBM', 101); show stocks;\n";
+const STOCKS: &[u8] =
+    b"table stocks (symbol text, price int, key symbol); ready; put stocks ('IBM', 100); put stocks ('IBM', 101); show stocks;\n";
 
 const STOCKS_REPLIES: [&[u8]; 5] = [
     b"ok\n",
@@ -128,11 +129,19 @@ fn scripts_are_answered(rt: HostRuntime) -> Result<(), Fail> {
             b"ok\nok\ncount 1\ncount 1\nrows 2\n(2, 'a')\n(-1, 'b;''c')\n",
             0,
         ),
-        (b"show t; ready; put t (1);", b"refused NotBuilt\nrefused NotBuilt\nrefused NotBuilt\n", 1),
+        (
+            b"show t; ready; put t (1);",
+            b"refused NotBuilt\nrefused NotBuilt\nrefused NotBuilt\n",
+            1,
+        ),
     ];
     for (text, wanted, status) in rows {
         for cut in [1u64, 2, 3, 1000] {
-            let outside = Outside { read_cut: cut, write_cut: cut, ..WELL };
+            let outside = Outside {
+                read_cut: cut,
+                write_cut: cut,
+                ..WELL
+            };
             let seen = run_top(&rt, rt.alloc(), &["script"], text, outside)?;
             assert_eq!(rt; seen.out.as_slice(), wanted, "cut {cut}");
             assert_eq!(rt; seen.status, status, "cut {cut}");
@@ -144,7 +153,14 @@ fn scripts_are_answered(rt: HostRuntime) -> Result<(), Fail> {
 // Words that ask for nothing that there is: nothing is read or written.
 #[test]
 fn other_words_have_status_2(rt: HostRuntime) -> Result<(), Fail> {
-    let cases: [&[&str]; 6] = [&[], &[""], &["Script"], &["scrip"], &["script", "script"], &["help"]];
+    let cases: [&[&str]; 6] = [
+        &[],
+        &[""],
+        &["Script"],
+        &["scrip"],
+        &["script", "script"],
+        &["help"],
+    ];
     for words in cases {
         let seen = run_top(&rt, rt.alloc(), words, STOCKS, WELL)?;
         assert_eq!(rt; seen.status, 2, "{words:?}");
@@ -167,7 +183,11 @@ fn a_read_that_fails_has_status_3(rt: HostRuntime) -> Result<(), Fail> {
         (1, &[83], 3),
     ];
     for (read_cut, failing_reads, replies) in cases {
-        let outside = Outside { read_cut, failing_reads, ..WELL };
+        let outside = Outside {
+            read_cut,
+            failing_reads,
+            ..WELL
+        };
         let seen = run_top(&rt, rt.alloc(), &["script"], STOCKS, outside)?;
         let wanted = first_replies(rt.alloc(), replies)?;
         assert_eq!(rt; seen.status, 3, "{read_cut} {failing_reads:?}");
@@ -191,7 +211,12 @@ fn a_write_that_fails_has_status_4(rt: HostRuntime) -> Result<(), Fail> {
     ];
     let whole = first_replies(rt.alloc(), 5)?;
     for (write_cut, failing_writes, still_writes, count) in cases {
-        let outside = Outside { write_cut, failing_writes, still_writes, ..WELL };
+        let outside = Outside {
+            write_cut,
+            failing_writes,
+            still_writes,
+            ..WELL
+        };
         let seen = run_top(&rt, rt.alloc(), &["script"], STOCKS, outside)?;
         assert_eq!(rt; seen.status, 4, "{count}");
         assert_eq!(rt; seen.out.len(), count);
