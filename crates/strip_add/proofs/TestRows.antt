@@ -1,10 +1,8 @@
 -- What the tests' rows of three numbers meet, and the first totals that are added to an empty table.
-use Rattle.std.proofs.Common.{◌≡◌, ℕ, suc, zero, ◌^◌, ◌<◌, ◌≤◌, List, [], ◌∷◌, ◌++◌, length, map, drop, refl, sym, ap, ◌∙◌, subst, arith}
-use Rattle.std.specs.Prelude.{ℤ, pos}
+use Rattle.std.proofs.Common.{◌≡◌, ℕ, suc, zero, ◌^◌, ◌<◌, ◌≤◌, List, [], ◌∷◌, length, map, drop, refl, sym, ap, subst, arith}
 use Rattle.std.proofs.lemmas.Int.{ints}
 use Rattle.std.proofs.lemmas.List.{length-map}
 use Rattle.std.specs.List.{AllByRecursion}
-use Rattle.strip_value.specs.declared.kinds.Kind.{Kind}
 use Rattle.strip_value.specs.declared.kinds.Kind.TheVariants as kind
 use Rattle.strip_value.specs.declared.values.Value.{Value}
 use Rattle.strip_value.specs.declared.values.Value.TheVariants.{Int, Text}
@@ -12,9 +10,9 @@ use Rattle.strip_value.specs.declared.tables.ColumnDef.{ColumnDef}
 use Rattle.strip_value.specs.declared.tables.TableDef.{TableDef}
 use Rattle.strip_value.specs.Kinds.{Fits, FitsColumns}
 use Rattle.strip_value.specs.Table.{Keyed, Rises}
-use Rattle.strip_value.proofs.Lists.{all_weaker, all_append}
-use Rattle.strip_meaning.specs.Sums.{CountsUp, IsDerived, IsUnder, as_derived, folded, number_of, plus, totals_of, zeros}
-use Rattle.strip_add.specs.Parts.{IsUnderAfter, numbers}
+use Rattle.strip_value.proofs.Lists.{all_weaker}
+use Rattle.strip_meaning.specs.Sums.{CountsUp, IsDerived, IsUnder, as_derived, folded, number_of, totals_of}
+use Rattle.strip_add.specs.Parts.{IsUnderAfter}
 use Rattle.strip_add.specs.Cells.{AreInts, HaveKinds, IsCellsDef}
 use Rattle.strip_add.proofs.SumLaws.{length_totals, plus_zeros, folded_rises}
 use Rattle.strip_add.proofs.LawProofs.{folded_fit}

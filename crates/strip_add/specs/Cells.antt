@@ -1,11 +1,9 @@
 -- Rows of a key and two totals, each a number of kind `int`: what the tests add up.
 use Rattle.std.specs.Prelude.{◌≡◌, List, [], ◌∷◌, None}
-use Rattle.strip_value.specs.declared.kinds.Kind.{Kind}
 use Rattle.strip_value.specs.declared.kinds.Kind.TheVariants as kind
 use Rattle.strip_value.specs.declared.tables.ColumnDef.{ColumnDef}
 use Rattle.strip_value.specs.declared.tables.TableDef.{TableDef}
 use Rattle.strip_value.specs.declared.values.Value.{Value}
-use Rattle.strip_value.specs.declared.values.Value.TheVariants.{Int, Text}
 use Rattle.strip_value.specs.Kinds.{Fits}
 
 abbrev pub AreInts : List Value → Type 0

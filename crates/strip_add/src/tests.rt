@@ -5,7 +5,9 @@ ghost use Rattle.strip_add.specs.Cells.{AreInts, IsCellsDef};
 
 use crate::{Row, RowList, Table, TableDef, Totals, Value, apply, fold};
 use std::alloc::{AllocError, Global};
-use std::test::Fail;
+use std::io;
+use std::process::Abort;
+use std::rt::Clock;
 use std::time::Instant;
 use strip_value::{ColumnDef, ColumnDefList, Kind, Name, NameError, U32List};
 
@@ -107,68 +109,116 @@ fn table_text(alloc: Global, table: &Table) -> Result<Vec<u8>, AllocError> {
     Ok(text)
 }
 
-#[test]
-fn folds_are_sums_by_hand(rt: HostRuntime) -> Result<(), Fail> {
-    let alloc = rt.alloc();
-    let def = cells_def(alloc)?;
-    let cases: [(&[(i32, i32, i32)], &[u8]); 4] = [
-        (&[], b""),
-        (&[(7, -5, 1)], b"(7, -5, 1)"),
+fn folded_text(
+    alloc: Global,
+    def: &TableDef,
+    cells: &[(i32, i32, i32)],
+) -> Result<Vec<u8>, AllocError>
+    requires def { IsCellsDef def.now }
+    requires few { length cells.now < 2 ^ 62 }
+{
+    let rows = cell_rows(alloc, cells)?;
+    let totals = totals_of(alloc, def, &rows)?;
+    text_of(alloc, &totals)
+}
+
+fn added_text(
+    alloc: Global,
+    def: &TableDef,
+    cells: &[(i32, i32, i32)],
+) -> Result<Vec<u8>, AllocError>
+    requires def { IsCellsDef def.now }
+    requires few { length cells.now < 2 ^ 62 }
+{
+    let rows = cell_rows(alloc, cells)?;
+    let table = added(alloc, def, &rows)?;
+    table_text(alloc, &table)
+}
+
+// Sums by hand: the rows, what is folded of them, and the table to which that is added.
+fn compare(rt: &impl Abort, alloc: Global, def: &TableDef) -> Result<(), AllocError>
+    requires { IsCellsDef def.now }
+{
+    let cases: [(&[(i32, i32, i32)], &[u8], &[u8]); 6] = [
+        (&[], b"", b""),
+        (&[(7, -5, 1)], b"(7, -5, 1)", b"(7, -5, 1)"),
         (
             &[
                 (2, 10, 1),
                 (1, -3, 1),
                 (2, -30, 1),
-                (1, 5, 1),
                 (-4, 2_000_000_000, 1),
                 (-4, 2_000_000_000, 1),
             ],
-            b"(-4, 4000000000, 2)(1, 2, 2)(2, -20, 2)",
+            b"(-4, 4000000000, 2)(1, -3, 1)(2, -20, 2)",
+            b"(-4, 4000000000, 2)(1, -3, 1)(2, -20, 2)",
         ),
-        (&[(3, 8, 1), (3, -8, -1)], b"(3, 0, 0)"),
-    ];
-    for (cells, sums) in cases {
-        let rows = cell_rows(alloc, cells)?;
-        let totals = totals_of(alloc, &def, &rows)?;
-        assert_eq!(rt; text_of(alloc, &totals)?.as_slice(), sums);
-    }
-    Ok(())
-}
-
-#[test]
-fn added_rows_stay_while_a_total_is_left(rt: HostRuntime) -> Result<(), Fail> {
-    let alloc = rt.alloc();
-    let def = cells_def(alloc)?;
-    let cases: [(&[(i32, i32, i32)], &[u8]); 4] = [
-        (&[(1, 5, 1), (2, 6, 1)], b"(1, 5, 1)(2, 6, 1)"),
+        (&[(3, 8, 1), (3, -8, -1)], b"(3, 0, 0)", b""),
+        (&[(1, 5, 1), (1, -5, 1)], b"(1, 0, 2)", b"(1, 0, 2)"),
         (
-            &[(2, 6, 1), (1, 5, 1), (1, -5, -1), (2, 4, -1), (0, -9, 1)],
-            b"(0, -9, 1)(2, 10, 0)",
+            &[(2, 6, 1), (1, 5, 1), (2, 4, -1), (1, -5, -1)],
+            b"(1, 0, 0)(2, 10, 0)",
+            b"(2, 10, 0)",
         ),
-        (&[(1, 5, 1), (1, -5, 1)], b"(1, 0, 2)"),
-        (&[(3, 0, 0), (4, 1, 1), (4, -1, -1)], b""),
     ];
-    for (cells, then) in cases {
-        let rows = cell_rows(alloc, cells)?;
-        let table = added(alloc, &def, &rows)?;
-        assert_eq!(rt; table_text(alloc, &table)?.as_slice(), then);
+    for (cells, sums, table) in cases {
+        assert!(rt; cells.len() < 100);
+        let folded = folded_text(alloc, def, cells)?;
+        assert!(rt; folded.as_slice() == sums);
+        let added = added_text(alloc, def, cells)?;
+        assert!(rt; added.as_slice() == table);
     }
     Ok(())
 }
 
 #[test]
-fn a_hundred_thousand_rows_of_ten_keys(rt: HostRuntime) -> Result<(), Fail> {
-    let alloc = rt.alloc();
-    let def = cells_def(alloc)?;
+fn sums_are_those_by_hand(rt: HostRuntime) {
+    let Ok(def) = cells_def(rt.alloc()) else {
+        assert!(rt; false);
+        return;
+    };
+    let compared = compare(&rt, rt.alloc(), &def);
+    assert!(rt; compared.is_ok());
+}
+
+fn many(alloc: Global) -> Result<Vec<(i32, i32, i32)>, AllocError> {
     let mut cells = Vec::with_capacity(alloc, 100_000)?;
     for i in 0..100_000 {
         cells.push((i % 10, i, 1))?;
     }
-    let rows = cell_rows(alloc, cells.as_slice())?;
-    let start = Instant::now(&rt)?;
-    let totals = totals_of(alloc, &def, &rows)?;
-    let took = start.elapsed(&rt)?;
-    eprintln!(rt; "100,000 rows of ten keys: {took:?}")?;
-    assert_eq!(rt; totals.len(), 10);
-    Ok(())
+    Ok(cells)
+}
+
+fn fold_many(alloc: Global, def: &TableDef, rows: &RowList) -> Result<usize, AllocError>
+    requires def { IsCellsDef def.now }
+    requires ints { AllByRecursion AreInts rows.now }
+    requires few { length rows.now < 2 ^ 62 }
+{
+    let totals = totals_of(alloc, def, rows)?;
+    Ok(totals.len())
+}
+
+// The time of a long fold is printed, and not judged.
+fn time<R: Clock + Eprint + Abort>(rt: &R, alloc: Global, def: &TableDef) -> io::Result<usize>
+    requires { IsCellsDef def.now }
+{
+    let cells = many(alloc)?;
+    let cells = cells.as_slice();
+    assert!(rt; cells.len() < 1_000_000);
+    let rows = cell_rows(alloc, cells)?;
+    let start = Instant::now(rt)?;
+    let keys = fold_many(alloc, def, &rows)?;
+    let took = start.elapsed(rt)?;
+    rt.eprintln(format_args!("100,000 rows of ten keys: {took:?}"))?;
+    Ok(keys)
+}
+
+#[test]
+fn a_hundred_thousand_rows_of_ten_keys(rt: HostRuntime) {
+    let Ok(def) = cells_def(rt.alloc()) else {
+        assert!(rt; false);
+        return;
+    };
+    let keys = time(&rt, rt.alloc(), &def);
+    assert!(rt; matches!(keys, Ok(10)));
 }
