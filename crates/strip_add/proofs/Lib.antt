@@ -2,3 +2,4 @@ pub mod KeyedAsMaps
 pub mod SumLaws
 pub mod ApplyLaws
 pub mod LawProofs
+pub mod TestRows

@@ -2,3 +2,4 @@
 pub mod Parts
 pub mod Laws
 pub mod Examples
+pub mod Cells

@@ -10,3 +10,6 @@ pub use applying::apply;
 pub use folding::{Totals, fold};
 pub use strip_table::Table;
 pub use strip_value::{Row, RowList, TableDef, Value};
+
+#[cfg(test)]
+mod tests;
