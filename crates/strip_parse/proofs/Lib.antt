@@ -1,0 +1,11 @@
+pub mod Begins
+pub mod Laws
+pub mod Completeness
+pub mod Faults
+pub mod Limits
+pub mod Loops
+pub mod Exact
+pub mod PrintedTokensFronts
+pub mod PrintedTokens
+pub mod PrintedGrammar
+pub mod Printed
