@@ -21,7 +21,7 @@ Gave-front bytes room at n limit same count some = record {
 
 -- the state of a loop that has written the first bytes of a piece, up to `at`
 pub record HasWritten (before now : Option (List ℕ)) (faults_before faults_now : ℕ) (piece : List ℕ) (at : ℕ) : Type 0 where
-  pub kept : faults_now ≡ faults_before
+  pub never_fell : faults_before ≤ faults_now
   pub appended : Appends before now (take at piece)
   pub within : at ≤ length piece
 

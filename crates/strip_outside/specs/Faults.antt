@@ -16,24 +16,17 @@ abbrev pub CountsFault : {A E : Type 0} → ℕ → ℕ → Result A E → Type 
 CountsFault before now (Ok answer) = now ≡ before
 CountsFault before now (Err fault) = Rose before now
 
--- a write that took n bytes of a piece: taking nothing of a piece with bytes is a fault too
-pub record CountsTaken (before now : ℕ) (piece : List ℕ) (n : ℕ) : Type 0 where
-  pub took : 0 < n → now ≡ before
-  pub nothing_to_take : length piece ≡ 0 → now ≡ before
-  pub stood_still : n ≡ 0 → 0 < length piece → Rose before now
-
--- what a write does to the count of faults of its sink
+-- a write is a fault only where the count of its sink rose; to take nothing of a piece with bytes is a fault too
 abbrev pub CountsWrite : {E : Type 0} → ℕ → ℕ → List ℕ → Result ℕ E → Type 0
-CountsWrite before now piece (Ok n) = CountsTaken before now piece n
+CountsWrite before now piece (Ok n) = n ≡ 0 → 0 < length piece → Rose before now
 CountsWrite before now piece (Err fault) = Rose before now
 
--- what an opening does to the count of faults of the files
+-- an opening is a fault only where the count of the files rose
 abbrev pub CountsOpening : {A : Type 0} → ℕ → ℕ → Result A OpenError → Type 0
-CountsOpening before now (Ok feed) = now ≡ before
+CountsOpening before now (Ok feed) = Unit {0}
 CountsOpening before now (Err Fault) = Rose before now
-CountsOpening before now (Err Memory) = now ≡ before
+CountsOpening before now (Err Memory) = Unit {0}
 
--- what taking a feed back does to the count of faults of the files: it rises where the feed had faults
-pub record CountsFeed (before now feed_faults : ℕ) : Type 0 where
-  pub failed : 0 < feed_faults → Rose before now
-  pub well : feed_faults ≡ 0 → now ≡ before
+-- taking a feed back with faults raises the count of the files
+abbrev pub CountsFeed : ℕ → ℕ → ℕ → Type 0
+CountsFeed before now feed_faults = 0 < feed_faults → Rose before now

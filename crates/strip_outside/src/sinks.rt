@@ -1,6 +1,6 @@
-ghost use Rattle.std.specs.Prelude.{ℕ, ◌≤◌, List, Option, length, IfOk};
+ghost use Rattle.std.specs.Prelude.{ℕ, ◌≤◌, List, Option, length, IfOk, OnErr};
 ghost use Rattle.strip_outside.specs.Bytes.{Writes, WritesAll};
-ghost use Rattle.strip_outside.specs.Faults.{CountsFault, CountsWrite};
+ghost use Rattle.strip_outside.specs.Faults.{CountsWrite, Rose};
 
 use crate::Fault;
 
@@ -25,7 +25,7 @@ pub trait Sink {
 /// may have been written.
 pub fn write_all<K: Sink>(out: &mut K, piece: &[u8]) -> Result<(), Fault>
     ensures never_falls { K.faults out.old ≤ K.faults out.new }
-    ensures counted { CountsFault (K.faults out.old) (K.faults out.new) result }
+    ensures counted { OnErr result (Rose (K.faults out.old) (K.faults out.new)) }
     ensures bytes { WritesAll (K.written out.old) (K.written out.new) piece.now result }
 {
     let mut at = 0;

@@ -172,7 +172,7 @@ longer_key columns row key i lt none =
 pub put_keeps : (def : TableDef) (old : List (List Value)) (row : List Value) (new : List (List Value)) (r : Result (Option (List Value)) PutError) → IsTable def old → FitsColumns def.columns row → PutsRow def.key def.limit old row new r → IsTable def new
 put_keeps def old row new (Ok replaced) table fits put = subst (IsTable def) (sym put.2) (table_with_row def old row table fits put.0)
 put_keeps def old row new (Err (Full most)) table fits put = subst (IsTable def) (sym put.1) table
-put_keeps def old row new (Err Memory) table fits put = subst (IsTable def) (sym put) table
+put_keeps def old row new (Err Memory) table fits put = subst (IsTable def) (sym put.1) table
 
 -- the three answers of a put, from what the search found
 pub put_full : (columns : List ℕ) (limit : Option ℕ) (rows : List (List Value)) (row : List Value) (at most count : ℕ) → IsGapAt columns rows (key_of columns row) at → count ≡ length rows → Some most ≡ reached limit count → PutsRow columns limit rows row rows (Err (Full most))

@@ -5,14 +5,15 @@ use Rattle.strip_value.specs.Table.{Keyed, key_of, row_at, with_row, without, fu
 use Rattle.strip_table.specs.declared.table.PutError.{PutError}
 use Rattle.strip_table.specs.declared.table.PutError.TheVariants.{Full, Memory}
 
--- a put answers the row that it replaced; it is refused where the key is new and the table is full
+-- a put answers the row that it replaced; it is refused where the key is new and the table is full, and there it is
+-- refused without a need of memory
 abbrev pub Puts : Keyed → List Value → Keyed → Result (Option (List Value)) PutError → Type 0
 Puts old row new (Ok replaced) =
     (full_at old row ≡ None)
     × (replaced ≡ row_at old.def.key old.rows (key_of old.def.key row))
     × (new ≡ record old { rows = with_row old.def.key old.rows row })
 Puts old row new (Err (Full limit)) = (full_at old row ≡ Some limit) × (new ≡ old)
-Puts old row new (Err Memory) = new ≡ old
+Puts old row new (Err Memory) = (full_at old row ≡ None) × (new ≡ old)
 
 -- the same of the rows alone
 abbrev pub PutsRow : List ℕ → Option ℕ → List (List Value) → List Value → List (List Value) → Result (Option (List Value)) PutError → Type 0
@@ -22,7 +23,8 @@ PutsRow columns limit old row new (Ok replaced) =
     × (new ≡ with_row columns old row)
 PutsRow columns limit old row new (Err (Full most)) =
     (passed_limit (row_at columns old (key_of columns row)) limit (length old) ≡ Some most) × (new ≡ old)
-PutsRow columns limit old row new (Err Memory) = new ≡ old
+PutsRow columns limit old row new (Err Memory) =
+    (passed_limit (row_at columns old (key_of columns row)) limit (length old) ≡ None) × (new ≡ old)
 
 -- the limit that this many rows have reached
 abbrev pub reached : Option ℕ → ℕ → Option ℕ

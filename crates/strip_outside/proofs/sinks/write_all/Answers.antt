@@ -11,10 +11,9 @@ returns-in-Ok-eq0-clause-bytes g c =
 
 pub loop-at-preserved : goal.loop-at-preserved
 loop-at-preserved g c =
-    let some_taken = c.in-Ok.taken-test.1 in
     let rest = ap length (slice_from c.loop-at.at c.args.piece.now) ∙ length-drop c.loop-at.at c.args.piece.now in
     record {
-      kept = c.in-Ok.ensures.counted.took (omega (arith, some_taken)) ∙ c.loop-at.invariant.kept;
+      never_fell = omega (arith, c.in-Ok.ensures.never_falls, c.loop-at.invariant.never_fell);
       appended = Appends-more _ _ _ c.args.piece.now c.loop-at.at c.in-Ok.taken c.loop-at.invariant.appended c.in-Ok.ensures.bytes;
       within = omega (arith, rest, c.in-Ok.ensures.within_piece, c.loop-at.invariant.within);
     }
