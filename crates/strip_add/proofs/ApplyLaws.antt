@@ -9,10 +9,10 @@ use Rattle.strip_value.specs.Kinds.{FitsColumns}
 use Rattle.strip_value.specs.Table.{Keyed, IsTable, key_of, has_key, Rises, row_at, with_row, without, put_back}
 use Rattle.strip_value.proofs.Lists.{all_at}
 use Rattle.strip_value.proofs.KeyedLaws.{below_found, find_all}
-use Rattle.strip_meaning.specs.Sums.{IsDerived, has_total, summed, settled, applied}
+use Rattle.strip_meaning.specs.Sums.{IsDerived, has_total, summed, settled, applied, plus, totals_at, totals_of}
 use Rattle.strip_add.specs.Parts.{chosen, Changed, sum_at, swept_row, swept_at, is_zero_at, swept, PutsSlot, TakesBack, IsUnderAfter}
 use Rattle.strip_add.proofs.KeyedAsMaps.{has_own, none_below, row_has_key, Sets, sets_row, sets_none, sets_back, sets_same, named_last, changed_none, changed_more, changed_less, changed_front, unchanged, same_changes, changed_again, changed_as}
-use Rattle.strip_add.proofs.SumLaws.{key_at_front, fits_length, summed_there}
+use Rattle.strip_add.proofs.SumLaws.{key_at_front, key_of_row, length_key, fits_length, summed_there}
 
 -- a key isn't among those before its place
 pub new_key : (columns : List ℕ) (rows : List (List Value)) (i : ℕ) (row : List Value) → Rises columns rows → i < length rows → row ≡ get_or rows i row → row_at columns (take i rows) (key_of columns row) ≡ None
@@ -34,14 +34,14 @@ settled_sets def rows row rises = by_test (has_total def row)
     by_test true = sets_row def.key rows row rises
     by_test false = sets_none def.key rows (key_of def.key row) rises
 
-pub applied_changed : (def : TableDef) (table totals : List (List Value)) → IsDerived def → Rises def.key table → AllByRecursion (FitsColumns def.columns) table → AllByRecursion (FitsColumns def.columns) totals → Changed def.key (kept_sum def table) table (applied def table totals) totals
-applied_changed def table [] derived rises fits kinds = changed_none def.key (kept_sum def table) table rises
-applied_changed def table (row ∷ totals) derived rises fits kinds =
-    let rest = applied_changed def table totals derived rises fits kinds.1 in
-    let there = summed_there def table row derived fits kinds.0 in
+pub applied_changed : (def : TableDef) (table totals : List (List Value)) → IsDerived def → Rises def.key table → Changed def.key (kept_sum def table) table (applied def table totals) totals
+applied_changed def table [] derived rises = changed_none def.key (kept_sum def table) table rises
+applied_changed def table (row ∷ totals) derived rises =
+    let rest = applied_changed def table totals derived rises in
+    let key = key_of_row def.key (key_of def.key row) (plus (totals_at def table (key_of def.key row)) (totals_of def row)) derived.key_first (length_key def.key row) in
     let sets = settled_sets def (applied def table totals) (summed def table row) rest.rises in
     changed_front def.key (kept_sum def table) table (applied def table totals) (settled def (applied def table totals) (summed def table row)) totals row rest
-    (subst (λ k. Sets def.key (applied def table totals) (settled def (applied def table totals) (summed def table row)) k (kept_sum def table row)) there.key sets)
+    (subst (λ k. Sets def.key (applied def table totals) (settled def (applied def table totals) (summed def table row)) k (kept_sum def table row)) key sets)
 
 -- the rows of sums are put, and the rows of zeros are taken out: that is adding
 pub applied_by_steps : (def : TableDef) (table between now totals : List (List Value)) → IsDerived def → IsTable def table → AllByRecursion (FitsColumns def.columns) totals → Changed def.key (sum_at def table) table between totals → Changed def.key (swept_at def between) between now totals → now ≡ applied def table totals
@@ -49,7 +49,7 @@ applied_by_steps def table between now totals derived is_table kinds first secon
     let same = changed_as def.key (swept_at def between) (kept_sum def table) between now totals second (λ row named.
     ap (swept_row def) (first.each (key_of def.key row) ∙ ap (λ o. chosen (sum_at def table) o (row_at def.key table (key_of def.key row))) named)) in
     let both = changed_again def.key (sum_at def table) (kept_sum def table) table between now totals first same in
-    same_changes def.key (kept_sum def table) table now (applied def table totals) totals both (applied_changed def table totals derived is_table.rises is_table.fits kinds)
+    same_changes def.key (kept_sum def table) table now (applied def table totals) totals both (applied_changed def table totals derived is_table.rises)
 
 -- one zero row is taken out, if it is one
 pub swept_sets : (def : TableDef) (rows : List (List Value)) (key : List Value) → Rises def.key rows → Sets def.key rows (swept def rows key) key (swept_row def (row_at def.key rows key))

@@ -25,7 +25,7 @@ equal_of Equal e = refl
 equal_of Greater e = cc
 
 -- totals that are all zero
-all_zero : (totals : List ℤ) → any_total totals ≡ false → totals ≡ replicate (length totals) (pos 0)
+pub all_zero : (totals : List ℤ) → any_total totals ≡ false → totals ≡ replicate (length totals) (pos 0)
 all_zero [] e = refl
 all_zero (t ∷ totals) e = by_test (int_eq t (pos 0)) refl (all_zero totals)
   where
@@ -36,7 +36,7 @@ all_zero (t ∷ totals) e = by_test (int_eq t (pos 0)) refl (all_zero totals)
         cc
     by_test false h rest = let met : true ≡ false = sym (ap (λ b. not b || any_total totals) h) ∙ e in cc
 
-any_zeros : (n : ℕ) → any_total (replicate n (pos 0)) ≡ false
+pub any_zeros : (n : ℕ) → any_total (replicate n (pos 0)) ≡ false
 any_zeros zero = refl
 any_zeros (suc n) = any_zeros n
 
@@ -56,7 +56,7 @@ summed_long def table row there all fits =
 
 module _ (def : TableDef) (table totals : List (List Value)) (can : CanBeAdded def table totals) where
   changed : Changed def.key (kept_sum def table) table (applied def table totals) totals
-  changed = applied_changed def table totals can.derived can.is_table.rises can.is_table.fits can.kinds
+  changed = applied_changed def table totals can.derived can.is_table.rises
 
   one_there : (row : List Value) → FitsColumns def.columns row → SummedThere def table row
   one_there row fits = summed_there def table row can.derived can.is_table.fits fits

@@ -3,3 +3,4 @@ pub mod SumLaws
 pub mod ApplyLaws
 pub mod LawProofs
 pub mod TestRows
+pub mod SummedUp

@@ -1,3 +1,10 @@
 pub mod Effect
 pub mod Examples
 pub mod Sums
+pub mod Moved
+pub mod Firing
+pub mod Maintained
+pub mod Actions
+pub mod Contents
+pub mod Course
+pub mod ActionExamples

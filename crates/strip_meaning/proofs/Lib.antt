@@ -1,0 +1,4 @@
+pub mod Behind
+pub mod ActionLaws
+pub mod States
+pub mod PlainActions
