@@ -1,4 +1,6 @@
 pub mod Fits
 pub mod Restores
 pub mod Holding
+pub mod Overlay
+pub mod NoRules
 pub mod Keeping

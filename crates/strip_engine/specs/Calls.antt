@@ -4,7 +4,7 @@ use Rattle.std.specs.declared.alloc.AllocError.{AllocError}
 use Rattle.strip_value.specs.declared.acts.Act.{Act}
 use Rattle.strip_value.specs.declared.acts.Reply.{Reply}
 use Rattle.strip_value.specs.declared.tables.TableDef.{TableDef}
-use Rattle.strip_model.specs.Says.{Call, to_begin, to_act, to_commit, to_undo, Answer, opened, replied, fired, undone, no_session, says}
+use Rattle.strip_model.specs.Says.{Call, to_begin, to_act, to_commit, to_undo, Answer, opened, replied, fired, undone, spent, no_session, says}
 use Rattle.strip_engine.specs.declared.answers.ActFault.{ActFault}
 use Rattle.strip_engine.specs.declared.answers.ActFault.TheVariants as act_fault
 use Rattle.strip_engine.specs.declared.answers.BeginError.{BeginError}
@@ -13,7 +13,7 @@ use Rattle.strip_engine.specs.declared.answers.CommitError.{CommitError}
 use Rattle.strip_engine.specs.declared.answers.CommitError.TheVariants as commit_error
 use Rattle.strip_engine.specs.declared.answers.Fired.{Fired}
 use Rattle.strip_engine.specs.declared.answers.NoSession.{NoSession}
-use Rattle.strip_engine.specs.State.{State, start, past, with_entry}
+use Rattle.strip_engine.specs.State.{State, fixed, past, with_entry}
 
 -- an engine is made with its catalog and limits, and an empty history; else the catalog comes back
 abbrev pub IsNew : List TableDef → ℕ → Result State (List TableDef × AllocError) → Type 0
@@ -22,8 +22,8 @@ IsNew defs bound_rows (Err refused) = refused.0 ≡ defs
 
 -- the call has this answer by what the engine says after its history, and just that entry was added
 pub record Answers (old : State) (call : Call) (answer : Answer) (new : State) : Type 0 where
-  pub answered : (says (start old) (past old) call).answer ≡ answer
-  pub added : new ≡ with_entry old (says (start old) (past old) call).entry
+  pub answered : (says (fixed old) (past old) call).answer ≡ answer
+  pub added : new ≡ with_entry old (says (fixed old) (past old) call).entry
 
 -- a begin; with no live session nothing stands in its way
 abbrev pub BeginsSession : State → ℕ → List ℕ → List ℕ → State → Result ℕ BeginError → Type 0
@@ -38,11 +38,11 @@ Acts old session act new (Ok reply) = Answers old (to_act session act) (replied 
 Acts old session act new (Err (act_fault.NoSession missing)) = Answers old (to_act session act) (no_session missing) new
 Acts old session act new (Err act_fault.Memory) = new ≡ old
 
--- a commit; no rule binds a row yet, so none is too many
+-- a commit
 abbrev pub Commits : State → ℕ → ℕ → State → Result Fired CommitError → Type 0
 Commits old session moment new (Ok bound) = Answers old (to_commit session moment) (fired bound.firings bound.rows) new
 Commits old session moment new (Err (commit_error.NoSession missing)) = Answers old (to_commit session moment) (no_session missing) new
-Commits old session moment new (Err (commit_error.Spent total)) = ⊥
+Commits old session moment new (Err (commit_error.Spent total)) = Answers old (to_commit session moment) (spent total) new
 Commits old session moment new (Err commit_error.Memory) = new ≡ old
 
 -- an undo, which takes no memory

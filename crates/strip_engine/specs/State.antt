@@ -4,10 +4,10 @@ use Rattle.std.specs.Prelude.{ℕ, List, [], ◌∷◌, ◌++◌, reverse, Optio
 use Rattle.std.specs.Coded.{Coded, code_by, coded×, coded_ℕ, coded_list}
 use Rattle.strip_value.specs.contracts.tables.TableDef as table_def
 use Rattle.strip_value.specs.declared.tables.TableDef.{TableDef}
-use Rattle.strip_value.specs.Table.{Keyed}
 use Rattle.strip_model.specs.contracts.entries.Entry as entry
 use Rattle.strip_model.specs.declared.entries.Entry.{Entry}
-use Rattle.strip_model.specs.History.{empty_tables}
+use Rattle.strip_model.specs.Derived.{Fixed}
+use Rattle.strip_engine.specs.Rules.{rules_from, functions_from}
 
 pub record State : Type 0 where
   pub defs : List TableDef
@@ -18,9 +18,12 @@ abbrev pub state_code : Coded State
 state_code =
     code_by (List TableDef × (ℕ × List Entry)) (coded× (coded_list table_def.the_row.coded) (coded× coded_ℕ (coded_list entry.the_row.coded))) (λ s. (s.defs, (s.bound_rows, s.history))) (λ p. record { defs = p.0; bound_rows = p.1.0; history = p.1.1 }) (λ _. refl)
 
--- the tables at the beginning
-abbrev pub start : State → List Keyed
-start s = empty_tables s.defs
+-- what never changes: the tables, with the rules and the functions that keep the derived ones, and the limit
+abbrev pub fixed_by : List TableDef → ℕ → Fixed
+fixed_by defs most = record { defs = defs; rules = rules_from 0 defs; functions = functions_from 0 defs; most = most }
+
+abbrev pub fixed : State → Fixed
+fixed s = fixed_by s.defs s.bound_rows
 
 -- the history, newest entry first
 abbrev pub past : State → List Entry

@@ -1,7 +1,7 @@
 ghost use Rattle.std.specs.Prelude.{◌≡◌, ◌≤◌, ◌^◌, ◌+◌, ◌<◌, [], length, IfOk};
 ghost use Rattle.strip_engine.specs.Calls.{IsNew, BeginsSession, Acts, Commits, Undoes};
 ghost use Rattle.strip_engine.specs.Made.{IsMade, AddsBegin};
-ghost use Rattle.strip_engine.specs.State.{past, start};
+ghost use Rattle.strip_engine.specs.State.{past, fixed};
 ghost use Rattle.strip_model.specs.History.{empty_tables, live};
 ghost use Rattle.strip_model.specs.Legal.{Legal, Names};
 
@@ -33,7 +33,7 @@ pub struct Engine {
 }
 
 impl Model for Engine {
-    ghost use Rattle.strip_engine.specs.State.{State, state_code};
+    ghost use Rattle.strip_engine.specs.State.{State, fixed_by, state_code};
 
     ghost Value = { State };
 
@@ -47,7 +47,7 @@ impl Model for Engine {
       history = e.history.entries;
     } };
 
-    ghost invariant = { λ e. Keeps e.catalog e.tables.items e.history.entries e.history.room e.session e.begins e.latest };
+    ghost invariant = { λ e. Keeps (fixed_by e.catalog e.limits.bound_rows) e.tables.items e.history.entries e.history.room e.session e.begins e.latest };
 }
 
 impl Engine {
@@ -175,7 +175,7 @@ impl Engine {
     /// Every entry so far, oldest first.
     pub fn history(&self) -> &History
         ensures entries { result.now.entries ≡ self.now.history }
-        ensures legal { Legal (start self.now) (past self.now) }
+        ensures legal { Legal (fixed self.now) (past self.now) }
     {
         &self.history
     }

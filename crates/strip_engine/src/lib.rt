@@ -5,6 +5,7 @@ mod answers;
 mod causes;
 mod engine;
 mod holds;
+mod keepers;
 mod setup;
 mod steps;
 #[cfg(test)]

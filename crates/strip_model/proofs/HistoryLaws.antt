@@ -7,8 +7,9 @@ use Rattle.strip_value.specs.Table.{Keyed}
 use Rattle.strip_value.proofs.Lists.{all_weaker, all_filter}
 use Rattle.strip_meaning.specs.Effect.{has_id}
 use Rattle.strip_model.specs.declared.entries.Entry.{Entry}
-use Rattle.strip_model.specs.declared.entries.Entry.TheVariants.{Begin, Did, Commit, Undo}
+use Rattle.strip_model.specs.declared.entries.Entry.TheVariants.{Begin, Did, Commit, Undo, Start, Finish}
 use Rattle.strip_model.specs.History.{empty_tables, begins, acts, Live, live, latest}
+use Rattle.strip_model.specs.Derived.{Fixed}
 use Rattle.strip_model.specs.Legal.{Legal, IsOpen, Rise}
 use Rattle.strip_model.specs.Says.{chosen, read_besides}
 
@@ -19,18 +20,22 @@ begins_at_most (Begin c s w r ∷ past) = let rest = begins_at_most past in omeg
 begins_at_most (Did c s a reply ∷ past) = let rest = begins_at_most past in omega arith
 begins_at_most (Commit c s m ∷ past) = let rest = begins_at_most past in omega arith
 begins_at_most (Undo c s ∷ past) = let rest = begins_at_most past in omega arith
+begins_at_most (Start c n m a d r ∷ past) = let rest = begins_at_most past in omega arith
+begins_at_most (Finish c n ∷ past) = let rest = begins_at_most past in omega arith
 
 abbrev pub Begun : ℕ → Live → Type 0
 Begun count l = l.session ≤ count
 
 -- each live session of a legal history has begun
-pub live_begun : (start : List Keyed) (past : List Entry) → Legal start past → AllByRecursion (Begun (begins past)) (live past)
-live_begun start [] legal = tt
-live_begun start (Begin c s w r ∷ past) legal =
-    (omega (arith, legal.0.next), all_weaker (Begun (begins past)) (Begun (begins past + 1)) (λ l le. omega arith) (live past) (live_begun start past legal.1))
-live_begun start (Did c s a reply ∷ past) legal = live_begun start past legal.1
-live_begun start (Commit c s m ∷ past) legal = all_filter (Begun (begins past)) (λ l. not (l.session == s)) (live past) (live_begun start past legal.1)
-live_begun start (Undo c s ∷ past) legal = all_filter (Begun (begins past)) (λ l. not (l.session == s)) (live past) (live_begun start past legal.1)
+pub live_begun : (f : Fixed) (past : List Entry) → Legal f past → AllByRecursion (Begun (begins past)) (live past)
+live_begun f [] legal = tt
+live_begun f (Begin c s w r ∷ past) legal =
+    (omega (arith, legal.0.next), all_weaker (Begun (begins past)) (Begun (begins past + 1)) (λ l le. omega arith) (live past) (live_begun f past legal.1))
+live_begun f (Did c s a reply ∷ past) legal = live_begun f past legal.1
+live_begun f (Commit c s m ∷ past) legal = all_filter (Begun (begins past)) (λ l. not (l.session == s)) (live past) (live_begun f past legal.1)
+live_begun f (Undo c s ∷ past) legal = all_filter (Begun (begins past)) (λ l. not (l.session == s)) (live past) (live_begun f past legal.1)
+live_begun f (Start c n m a d r ∷ past) legal = live_begun f past legal.1
+live_begun f (Finish c n ∷ past) legal = live_begun f past legal.1
 
 -- an open session has begun
 begun_here : (session count : ℕ) (l : Live) (b c rest : Bool) → (l.session == session) ≡ b → ((b && c) || rest) ≡ true → Begun count l → (rest ≡ true → session ≤ count) → session ≤ count
@@ -42,8 +47,8 @@ any_begun caller session count [] all any = cc
 any_begun caller session count (l ∷ ls) all any =
     begun_here session count l (l.session == session) (l.caller == caller) (list_any (λ k. k.session == session && k.caller == caller) ls) refl any all.0 (any_begun caller session count ls all.1)
 
-pub open_begun : (start : List Keyed) (past : List Entry) (caller session : ℕ) → Legal start past → IsOpen past caller session → session ≤ begins past
-open_begun start past caller session legal opened = any_begun caller session (begins past) (live past) (live_begun start past legal) opened
+pub open_begun : (f : Fixed) (past : List Entry) (caller session : ℕ) → Legal f past → IsOpen past caller session → session ≤ begins past
+open_begun f past caller session legal opened = any_begun caller session (begins past) (live past) (live_begun f past legal) opened
 
 differs : (m n : ℕ) → m < n → (m == n) ≡ false
 differs m n lt = not_equal (m == n) refl
@@ -56,26 +61,33 @@ pub itself : (n : ℕ) → (n == n) ≡ true
 itself n = eq-eqb n n refl
 
 -- a session that hasn't begun has no acts
-pub no_acts : (start : List Keyed) (past : List Entry) (session : ℕ) → Legal start past → begins past < session → acts past session ≡ []
-no_acts start [] session legal later = refl
-no_acts start (Begin c s w r ∷ past) session legal later = no_acts start past session legal.1 (omega arith)
-no_acts start (Did c s a reply ∷ past) session legal later =
-    let begun = open_begun start past c s legal.1 legal.0.0 in
+pub no_acts : (f : Fixed) (past : List Entry) (session : ℕ) → Legal f past → begins past < session → acts past session ≡ []
+no_acts f [] session legal later = refl
+no_acts f (Begin c s w r ∷ past) session legal later = no_acts f past session legal.1 (omega arith)
+no_acts f (Did c s a reply ∷ past) session legal later =
+    let begun = open_begun f past c s legal.1 legal.0.0 in
     let other = differs s session (omega arith) in
-    ap (λ b. cond b (a ∷ []) [] ++ acts past session) other ∙ no_acts start past session legal.1 later
-no_acts start (Commit c s m ∷ past) session legal later = no_acts start past session legal.1 later
-no_acts start (Undo c s ∷ past) session legal later = no_acts start past session legal.1 later
+    ap (λ b. cond b (a ∷ []) [] ++ acts past session) other ∙ no_acts f past session legal.1 later
+no_acts f (Commit c s m ∷ past) session legal later = no_acts f past session legal.1 later
+no_acts f (Undo c s ∷ past) session legal later = no_acts f past session legal.1 later
+no_acts f (Start c n m a d r ∷ past) session legal later = no_acts f past session legal.1 later
+no_acts f (Finish c n ∷ past) session legal later = no_acts f past session legal.1 later
 
 -- no moment is after the last one
-pub latest_in_time : (start : List Keyed) (past : List Entry) → Legal start past → latest past ≤ 2 ^ 63
-latest_in_time start [] legal = omega arith
-latest_in_time start (Begin c s w r ∷ past) legal = latest_in_time start past legal.1
-latest_in_time start (Did c s a reply ∷ past) legal = latest_in_time start past legal.1
-latest_in_time start (Commit c s m ∷ past) legal =
-    let rest = latest_in_time start past legal.1 in
+pub latest_in_time : (f : Fixed) (past : List Entry) → Legal f past → latest past ≤ 2 ^ 63
+latest_in_time f [] legal = omega arith
+latest_in_time f (Begin c s w r ∷ past) legal = latest_in_time f past legal.1
+latest_in_time f (Did c s a reply ∷ past) legal = latest_in_time f past legal.1
+latest_in_time f (Commit c s m ∷ past) legal =
+    let rest = latest_in_time f past legal.1 in
     let here = legal.0.1 in
     omega arith
-latest_in_time start (Undo c s ∷ past) legal = latest_in_time start past legal.1
+latest_in_time f (Undo c s ∷ past) legal = latest_in_time f past legal.1
+latest_in_time f (Start c n m a d r ∷ past) legal =
+    let rest = latest_in_time f past legal.1 in
+    let here = legal.0.early in
+    omega arith
+latest_in_time f (Finish c n ∷ past) legal = latest_in_time f past legal.1
 
 -- what is chosen rises within its bounds
 rises_if : (b : Bool) (from high : ℕ) (ids : List ℕ) → from < high → Rise (from + 1) high ids → Rise from high (cond b (from ∷ []) [] ++ ids)

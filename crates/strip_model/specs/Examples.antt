@@ -9,11 +9,11 @@ use Rattle.strip_value.specs.declared.tables.TableDef.{TableDef}
 use Rattle.strip_value.specs.declared.values.Value.{Value}
 use Rattle.strip_value.specs.declared.values.Value.TheVariants.{Int}
 use Rattle.strip_value.specs.Print.{tuple_text}
-use Rattle.strip_value.specs.Table.{Keyed}
 use Rattle.strip_meaning.specs.Effect.{effect}
 use Rattle.strip_model.specs.declared.entries.Entry.{Entry}
 use Rattle.strip_model.specs.declared.entries.Entry.TheVariants.{Begin, Did, Commit, Undo}
-use Rattle.strip_model.specs.History.{empty_tables, base, live, begins}
+use Rattle.strip_model.specs.History.{base, live, begins}
+use Rattle.strip_model.specs.Derived.{Fixed, beginning}
 use Rattle.strip_model.specs.Legal.{reply_of}
 use Rattle.strip_model.specs.Says.{says, to_begin, opened}
 use Rattle.strip_model.specs.Texts.{line_of_reply}
@@ -30,8 +30,9 @@ narrow = record {
   declared = false;
 }
 
-abbrev start : List Keyed
-start = empty_tables (narrow ∷ [])
+-- no rule stands on it
+abbrev alone : Fixed
+alone = record { defs = narrow ∷ []; rules = []; functions = []; most = 10 }
 
 abbrev one : List Value
 one = Int (pos 1) ∷ []
@@ -47,7 +48,7 @@ abbrev refused : List Entry
 refused = Undo 0 2 ∷ Did 0 2 (Put 0 two) (Refused (Full 0 1)) ∷ Begin 0 2 (0 ∷ []) [] ∷ committed
 
 -- the committed row stands, and the refused one doesn't
-pub base_rows : base start refused ≡ record { def = narrow; rows = one ∷ [] } ∷ []
+pub base_rows : base (beginning alone) refused ≡ record { def = narrow; rows = one ∷ [] } ∷ []
 unfolding effect
 base_rows = refl
 
@@ -58,12 +59,12 @@ pub two_begins : begins refused ≡ 2
 two_begins = refl
 
 -- the reply that the refused put must have
-pub full_reply : reply_of start (Begin 0 2 (0 ∷ []) [] ∷ committed) 2 (Put 0 two) ≡ Refused (Full 0 1)
+pub full_reply : reply_of alone (Begin 0 2 (0 ∷ []) [] ∷ committed) 2 (Put 0 two) ≡ Refused (Full 0 1)
 unfolding effect
 full_reply = refl
 
 -- what the engine says to the next begin, which names a table twice
-pub next_begin : says start refused (to_begin 0 (0 ∷ 0 ∷ []) (0 ∷ [])) ≡ record { answer = opened 3; entry = Some (Begin 0 3 (0 ∷ []) []) }
+pub next_begin : says alone refused (to_begin 0 (0 ∷ 0 ∷ []) (0 ∷ [])) ≡ record { answer = opened 3; entry = Some (Begin 0 3 (0 ∷ []) []) }
 next_begin = refl
 
 -- the texts

@@ -1,6 +1,8 @@
 -- The texts of replies. A name of a table is that of its definition.
 use Rattle.std.specs.Prelude.{ℕ, ℤ, pos, List, [], ◌∷◌, ◌++◌, length, codes, slice_get, Option, Some, None}
 use Rattle.std.specs.Fmt.{signed_decimal}
+use Rattle.strip_value.specs.declared.actions.KeyOf.{KeyOf}
+use Rattle.strip_value.specs.declared.actions.KeyOf.TheVariants.{Plain, Unique}
 use Rattle.strip_value.specs.declared.acts.ActError.{ActError}
 use Rattle.strip_value.specs.declared.acts.ActError.TheVariants.{NotHeld, ReadOnly, Derived, KindMismatch, OutOfRange, Duplicate, Full}
 use Rattle.strip_value.specs.declared.acts.Reply.{Reply}
@@ -8,6 +10,7 @@ use Rattle.strip_value.specs.declared.acts.Reply.TheVariants.{Rows, Count, Refus
 use Rattle.strip_value.specs.declared.tables.TableDef.{TableDef}
 use Rattle.strip_value.specs.declared.values.Value.{Value}
 use Rattle.strip_value.specs.Print.{tuple_text}
+use Rattle.strip_model.specs.Says.{Task}
 
 -- a number in decimal
 abbrev pub number_field : ℤ → List ℕ
@@ -49,3 +52,31 @@ unfoldable pub line_of_reply : List TableDef → Reply → List ℕ
 line_of_reply defs (Count n) = line (codes "count " ++ number_field (pos n))
 line_of_reply defs (Rows rows) = rows_text rows
 line_of_reply defs (Refused cause) = line (codes "refused " ++ cause_text defs cause)
+
+-- ---- answers to other calls
+
+-- a word and a number on a line
+abbrev pub number_line : List ℕ → ℕ → List ℕ
+number_line word n = line (word ++ number_field (pos n))
+
+-- the rows bound would be this many, more than the limit
+unfoldable pub line_of_spent : ℕ → List ℕ
+line_of_spent total = number_line (codes "refused Spent ") total
+
+-- the number isn't running
+unfoldable pub line_of_not_running : ℕ → List ℕ
+line_of_not_running number = number_line (codes "refused NotRunning ") number
+
+-- a job was finished
+unfoldable pub line_of_finished : ℕ → List ℕ
+line_of_finished number = number_line (codes "finished ") number
+
+-- what tells an action from the others of its function
+abbrev pub key_text : KeyOf → List ℕ
+key_text (Plain place rule) = codes "plain"
+key_text (Unique values starts) = tuple_text values
+
+-- a job that was started: its number, its function and its key, when it was due, and how many bound rows it has
+unfoldable pub line_of_job : List ℕ → Task → List ℕ
+line_of_job function task =
+    line (codes "job " ++ number_field (pos task.number) ++ codes " " ++ function ++ codes " " ++ key_text task.action.key ++ codes " due " ++ number_field (pos task.due) ++ codes " rows " ++ number_field (pos task.rows))

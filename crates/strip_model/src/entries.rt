@@ -1,5 +1,5 @@
 use std::alloc::{AllocError, Global};
-use strip_value::{Act, Duplicate, Ids, Reply};
+use strip_value::{Act, ActionId, Duplicate, Ids, Reply};
 
 /// One event of the database. A caller is whoever made the call; sessions are numbered from 1 in the order of their
 /// begins.
@@ -29,6 +29,21 @@ pub enum Entry {
     Undo {
         caller: u32,
         session: u64,
+    },
+    /// An action was started, at this moment. Starts are numbered from 1. The action was due at `due`, and has
+    /// so many bound rows.
+    Start {
+        caller: u32,
+        number: u64,
+        moment: u64,
+        action: ActionId,
+        due: u64,
+        rows: u64,
+    },
+    /// The action of this start was finished: what it was to do stands from here on.
+    Finish {
+        caller: u32,
+        number: u64,
     },
 }
 
@@ -77,6 +92,28 @@ impl Duplicate for Entry {
             Entry::Undo { caller, session } => Ok(Entry::Undo {
                 caller: *caller,
                 session: *session,
+            }),
+            Entry::Start {
+                caller,
+                number,
+                moment,
+                action,
+                due,
+                rows,
+            } => {
+                let action = action.copy(alloc)?;
+                Ok(Entry::Start {
+                    caller: *caller,
+                    number: *number,
+                    moment: *moment,
+                    action,
+                    due: *due,
+                    rows: *rows,
+                })
+            }
+            Entry::Finish { caller, number } => Ok(Entry::Finish {
+                caller: *caller,
+                number: *number,
             }),
         }
     }

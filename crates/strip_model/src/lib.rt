@@ -11,4 +11,4 @@ mod texts;
 pub use entries::Entry;
 pub use history::History;
 pub use strip_value::{Act, ActError, Bytes, Duplicate, Holds, Id, Ids, Reply, Row, TableDef};
-pub use texts::{refusal_text, reply_text};
+pub use texts::{finished_text, not_running_text, refusal_text, reply_text, spent_text};

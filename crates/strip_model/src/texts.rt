@@ -1,5 +1,5 @@
 ghost use Rattle.std.specs.Prelude.{◌≡◌, ◌++◌, ◌<◌, length, IfOk, OnOk};
-ghost use Rattle.strip_model.specs.Texts.{line_of_reply, cause_text, rows_text, row_lines, table_name, number_field};
+ghost use Rattle.strip_model.specs.Texts.{line_of_reply, line_of_spent, line_of_not_running, line_of_finished, number_line, cause_text, rows_text, row_lines, table_name, number_field};
 
 use itoa::Buffer;
 use std::alloc::{AllocError, Global};
@@ -106,4 +106,38 @@ fn push_number(n: i128, text: &mut Vec<u8>) -> Result<(), AllocError>
 {
     let mut digits = Buffer::new();
     text.extend_from_slice(digits.format(n).as_bytes())
+}
+
+fn number_text(alloc: Global, word: &[u8], n: u128) -> Result<Vec<u8>, AllocError>
+    ensures { IfOk result (λ text. text.items ≡ number_line word.now n) }
+{
+    let mut text = Vec::from_slice(alloc, word)?;
+    let mut digits = Buffer::new();
+    text.extend_from_slice(digits.format(n).as_bytes())?;
+    text.push(b'\n')?;
+    Ok(text)
+}
+
+/// The reply to a commit whose rules would bind so many rows in all, more than the limit.
+#[tactic(auto, unfolding(crate::specs::Texts::line_of_spent))]
+pub fn spent_text(alloc: Global, total: u64) -> Result<Vec<u8>, AllocError>
+    ensures { IfOk result (λ text. text.items ≡ line_of_spent total) }
+{
+    number_text(alloc, b"refused Spent ", total as u128)
+}
+
+/// The reply to the finish of a number that isn't running.
+#[tactic(auto, unfolding(crate::specs::Texts::line_of_not_running))]
+pub fn not_running_text(alloc: Global, number: u128) -> Result<Vec<u8>, AllocError>
+    ensures { IfOk result (λ text. text.items ≡ line_of_not_running number) }
+{
+    number_text(alloc, b"refused NotRunning ", number)
+}
+
+/// The reply to a finish.
+#[tactic(auto, unfolding(crate::specs::Texts::line_of_finished))]
+pub fn finished_text(alloc: Global, number: u64) -> Result<Vec<u8>, AllocError>
+    ensures { IfOk result (λ text. text.items ≡ line_of_finished number) }
+{
+    number_text(alloc, b"finished ", number as u128)
 }
