@@ -1,4 +1,4 @@
-pub mod FormLaws
+pub mod PlainLaws
 pub mod BaseLaws
 pub mod RunState
 pub mod StatusLaws

@@ -1,5 +1,5 @@
 -- The state of a run: the pieces answered so far, and what was written.
-use Rattle.std.proofs.Common.{◌≡◌, ℕ, ◌+◌, ◌≤◌, Bool, true, false, ◌||◌, List, [], ◌∷◌, ◌++◌, length, Option, Result, Ok, Err, refl, sym, ap, ◌∙◌, subst, append_assoc, append-nil, arith, ◌⊎◌, inl, inr}
+use Rattle.std.proofs.Common.{◌≡◌, ℕ, ◌+◌, ◌^◌, ◌≤◌, Bool, true, false, ◌||◌, List, [], ◌∷◌, ◌++◌, length, Option, Result, Ok, Err, refl, sym, ap, ◌∙◌, subst, append_assoc, append-nil, arith, ◌⊎◌, inl, inr}
 use Rattle.std.specs.Io.KnownBytes.{Consumes, Appends, IsAtEnd}
 use Rattle.std.proofs.KnownBytes.{Appends-trans, Appends-nil}
 use Rattle.strip_value.specs.declared.pieces.Piece.{Piece}
@@ -14,6 +14,7 @@ use Rattle.strip_lines.specs.Reading.{Reading, fresh, coming, ended, whole_state
 use Rattle.strip_lines.proofs.ReadingLaws.{coming-fresh, ended-fresh}
 use Rattle.strip_lines.proofs.TextLaws.{IsPiece-from_not_end}
 use Rattle.strip_lines.proofs.RunLaws.{Run, Run-none, Run-piece, Run-kept, Run-end, Run-fault, Run-too_much}
+use Rattle.strip_engine.specs.declared.answers.Limits.{Limits}
 use Rattle.strip.specs.declared.run.Ended.{Ended}
 use Rattle.strip.specs.declared.run.RunError.TheVariants.{Write, Memory}
 use Rattle.strip.specs.Runs.{AreFirst, Runs, Counts, run_error}
@@ -28,15 +29,15 @@ abbrev pub stage_after : Stage → List Piece → Stage
 stage_after stage [] = stage
 stage_after stage (p ∷ ps) = stage_after (step stage p).stage ps
 
-pub record InRun (limit : ℕ) (reader : Reading) (left_before left_now : Option (List ℕ)) (in_before in_now : ℕ) (written_before written_now : Option (List ℕ)) (out_before out_now : ℕ) (stage : CodeStage) (refused : Bool) : Type 0 where
+pub record InRun (most limit : ℕ) (reader : Reading) (left_before left_now : Option (List ℕ)) (in_before in_now : ℕ) (written_before written_now : Option (List ℕ)) (out_before out_now : ℕ) (stage : CodeStage) (refused : Bool) : Type 0 where
   pub answered : List Piece
   pub run : Run (fresh limit) reader left_before left_now answered
-  pub appended : Appends written_before written_now (replies empty answered)
-  pub standing : stage_of stage ≡ stage_after empty answered
+  pub appended : Appends written_before written_now (replies (empty most) answered)
+  pub standing : stage_of stage ≡ stage_after (empty most) answered
   pub steady : IsSteady stage
-  pub refusing : refused ≡ refuses empty answered
+  pub refusing : refused ≡ refuses (empty most) answered
   pub in_same : in_now ≡ in_before
-  pub out_same : out_now ≡ out_before
+  pub out_kept : out_before ≤ out_now
 
 -- one piece more
 pub replies-append : (stage : Stage) (ps : List Piece) (p : Piece) → replies stage (ps ++ p ∷ []) ≡ replies stage ps ++ (step (stage_after stage ps) p).text
@@ -64,43 +65,43 @@ stage_after-append stage [] p = refl
 stage_after-append stage (q ∷ qs) p = stage_after-append (step stage q).stage qs p
 
 -- no piece yet
-pub InRun-none : (limit : ℕ) (reader : Reading) (left : Option (List ℕ)) (ins : ℕ) (written : Option (List ℕ)) (outs : ℕ)
-    → reader ≡ fresh limit → InRun limit reader left left ins ins written written outs outs Empty false
-InRun-none limit reader left ins written outs begun =
-    subst (λ r. InRun limit r left left ins ins written written outs outs Empty false) (sym begun) (record {
+pub InRun-none : (limits : Limits) (limit : ℕ) (reader : Reading) (left : Option (List ℕ)) (ins : ℕ) (written : Option (List ℕ)) (outs : ℕ)
+    → reader ≡ fresh limit → limits.bound_rows ≤ 2 ^ 60 → InRun limits.bound_rows limit reader left left ins ins written written outs outs (Empty limits) false
+InRun-none limits limit reader left ins written outs begun few =
+    subst (λ r. InRun limits.bound_rows limit r left left ins ins written written outs outs (Empty limits) false) (sym begun) (record {
       answered = [];
       run = Run-none (fresh limit) left refl (omega arith);
       appended = Appends-nil written;
       standing = refl;
-      steady = tt;
+      steady = few;
       refusing = refl;
       in_same = refl;
-      out_same = refl;
+      out_kept = omega arith;
     })
 
 -- the text that a piece adds to the replies
-one_more : (stage : CodeStage) (answered : List Piece) (piece : Piece) (a : Answer) → stage_of stage ≡ stage_after empty answered → IsStep (step (stage_of stage) piece) a
-    → replies empty answered ++ a.text.items ≡ replies empty (answered ++ piece ∷ [])
-one_more stage answered piece a standing is_step =
-    ap (λ text. replies empty answered ++ text) (is_step.text ∙ ap (λ s. (step s piece).text) standing) ∙ sym (replies-append empty answered piece)
+one_more : (most : ℕ) (stage : CodeStage) (answered : List Piece) (piece : Piece) (a : Answer) → stage_of stage ≡ stage_after (empty most) answered → IsStep (step (stage_of stage) piece) a
+    → replies (empty most) answered ++ a.text.items ≡ replies (empty most) (answered ++ piece ∷ [])
+one_more most stage answered piece a standing is_step =
+    ap (λ text. replies (empty most) answered ++ text) (is_step.text ∙ ap (λ s. (step s piece).text) standing) ∙ sym (replies-append (empty most) answered piece)
 
 -- a piece was read, answered, and the answer written whole
-pub InRun-piece : (limit : ℕ) (old new : Reading) (left left1 left2 : Option (List ℕ)) (ins in1 in2 : ℕ) (written written1 written2 : Option (List ℕ)) (outs out1 out2 : ℕ)
+pub InRun-piece : (most limit : ℕ) (old new : Reading) (left left1 left2 : Option (List ℕ)) (ins in1 in2 : ℕ) (written written1 written2 : Option (List ℕ)) (outs out1 out2 : ℕ)
     (stage : CodeStage) (refused : Bool) (piece : Piece) (a : Answer) (text : List ℕ) → (piece ≡ End → ⊥)
-    → InRun limit old left left1 ins in1 written written1 outs out1 stage refused → Outcome old new left1 left2 in1 in2 (Ok piece)
-    → IsStep (step (stage_of stage) piece) a → Appends written1 written2 text → text ≡ a.text.items → out2 ≡ out1
-    → InRun limit new left left2 ins in2 written written2 outs out2 a.stage (refused || a.refused)
-InRun-piece limit old new left left1 left2 ins in1 in2 written written1 written2 outs out1 out2 stage refused piece a text other inside outcome is_step wrote whole same = record {
+    → InRun most limit old left left1 ins in1 written written1 outs out1 stage refused → Outcome old new left1 left2 in1 in2 (Ok piece)
+    → IsStep (step (stage_of stage) piece) a → Appends written1 written2 text → text ≡ a.text.items → out1 ≤ out2
+    → InRun most limit new left left2 ins in2 written written2 outs out2 a.stage (refused || a.refused)
+InRun-piece most limit old new left left1 left2 ins in1 in2 written written1 written2 outs out1 out2 stage refused piece a text other inside outcome is_step wrote whole kept = record {
   answered = inside.answered ++ piece ∷ [];
   run = Run-piece (fresh limit) old new left left1 left2 in1 in2 inside.answered piece (IsPiece-from_not_end piece other) inside.run outcome;
-  appended = subst (Appends written written2) (one_more stage inside.answered piece a inside.standing is_step)
-      (Appends-trans written written1 written2 (replies empty inside.answered) a.text.items inside.appended (subst (Appends written1 written2) whole wrote));
-  standing = is_step.stage ∙ ap (λ s. (step s piece).stage) inside.standing ∙ sym (stage_after-append empty inside.answered piece);
+  appended = subst (Appends written written2) (one_more most stage inside.answered piece a inside.standing is_step)
+      (Appends-trans written written1 written2 (replies (empty most) inside.answered) a.text.items inside.appended (subst (Appends written1 written2) whole wrote));
+  standing = is_step.stage ∙ ap (λ s. (step s piece).stage) inside.standing ∙ sym (stage_after-append (empty most) inside.answered piece);
   steady = is_step.steady;
-  refusing = ap (λ r. r || a.refused) inside.refusing ∙ ap (λ r. refuses empty inside.answered || r) (is_step.refused ∙ ap (λ s. (step s piece).refused) inside.standing)
-      ∙ sym (refuses-append empty inside.answered piece);
+  refusing = ap (λ r. r || a.refused) inside.refusing ∙ ap (λ r. refuses (empty most) inside.answered || r) (is_step.refused ∙ ap (λ s. (step s piece).refused) inside.standing)
+      ∙ sym (refuses-append (empty most) inside.answered piece);
   in_same = outcome.faults ∙ inside.in_same;
-  out_same = same ∙ inside.out_same;
+  out_kept = omega (arith, kept, inside.out_kept);
 }
 
 -- what a run has answered are first pieces of the bytes that the source gave
@@ -124,23 +125,23 @@ Run-within : (limit : ℕ) (reader : Reading) (left left1 : Option (List ℕ)) (
 Run-within limit reader left left1 answered run = omega (arith, run.counted, run.same_limit, run.within)
 
 -- the script has ended
-pub InRun-end : (limit : ℕ) (old new : Reading) (left left1 left2 : Option (List ℕ)) (ins in1 in2 : ℕ) (written written1 : Option (List ℕ)) (outs out1 : ℕ)
+pub InRun-end : (most limit : ℕ) (old new : Reading) (left left1 left2 : Option (List ℕ)) (ins in1 in2 : ℕ) (written written1 : Option (List ℕ)) (outs out1 : ℕ)
     (stage : CodeStage) (refused : Bool)
-    → InRun limit old left left1 ins in1 written written1 outs out1 stage refused → Outcome old new left1 left2 in1 in2 (Ok End)
+    → InRun most limit old left left1 ins in1 written written1 outs out1 stage refused → Outcome old new left1 left2 in1 in2 (Ok End)
     → (old.taken ≤ old.limit → old.done ≡ true → (new ≡ old) × (left2 ≡ left1))
-    → Runs limit left left2 written written1 (Ok (record { refused = refused }))
+    → Runs most limit left left2 written written1 (Ok (record { refused = refused }))
 unfolding answer is_refused
-InRun-end limit old new left left1 left2 ins in1 in2 written written1 outs out1 stage refused inside outcome again =
+InRun-end most limit old new left left1 left2 ins in1 in2 written written1 outs out1 stage refused inside outcome again =
     let over = Run-end (fresh limit) old new left left1 left2 in1 in2 inside.answered inside.run outcome again in
     let all : inside.answered ≡ pieces over.given = sym over.all ∙ coming-fresh limit over.given in
     record {
       given = over.given;
-      wrote = replies empty inside.answered;
+      wrote = replies (empty most) inside.answered;
       consumed = over.consumed;
       appended = inside.appended;
       told = record {
-        answered = ap (replies empty) all;
-        refused = inside.refusing ∙ ap (refuses empty) all;
+        answered = ap (replies (empty most)) all;
+        refused = inside.refusing ∙ ap (refuses (empty most)) all;
         at_end = over.at_end;
         within = omega (arith, over.within);
       };
@@ -158,12 +159,12 @@ AreFirst-fewer all answered others given left split firsts =
     by_case firsts.among
 
 -- memory was wanting after these were answered
-Run-lacked : (limit : ℕ) (reader : Reading) (left left1 : Option (List ℕ)) (written written1 : Option (List ℕ)) (all answered others : List Piece)
-    → Run (fresh limit) reader left left1 all → all ≡ answered ++ others → Appends written written1 (replies empty answered)
-    → Runs limit left left1 written written1 (Err Memory)
-Run-lacked limit reader left left1 written written1 all answered others run first wrote = record {
+Run-lacked : (most limit : ℕ) (reader : Reading) (left left1 : Option (List ℕ)) (written written1 : Option (List ℕ)) (all answered others : List Piece)
+    → Run (fresh limit) reader left left1 all → all ≡ answered ++ others → Appends written written1 (replies (empty most) answered)
+    → Runs most limit left left1 written written1 (Err Memory)
+Run-lacked most limit reader left left1 written written1 all answered others run first wrote = record {
   given = run.given;
-  wrote = replies empty answered;
+  wrote = replies (empty most) answered;
   consumed = run.consumed;
   appended = wrote;
   told = record {
@@ -175,76 +176,76 @@ Run-lacked limit reader left left1 written written1 all answered others run firs
 }
 
 -- a read failed
-pub InRun-failed : (limit : ℕ) (old new : Reading) (left left1 left2 : Option (List ℕ)) (ins in1 in2 : ℕ) (written written1 : Option (List ℕ)) (outs out1 : ℕ)
+pub InRun-failed : (most limit : ℕ) (old new : Reading) (left left1 left2 : Option (List ℕ)) (ins in1 in2 : ℕ) (written written1 : Option (List ℕ)) (outs out1 : ℕ)
     (stage : CodeStage) (refused : Bool) (error : ReadError)
-    → InRun limit old left left1 ins in1 written written1 outs out1 stage refused → Outcome old new left1 left2 in1 in2 (Err error)
-    → Runs limit left left2 written written1 (Err (run_error error))
-InRun-failed limit old new left left1 left2 ins in1 in2 written written1 outs out1 stage refused read.Fault inside outcome =
+    → InRun most limit old left left1 ins in1 written written1 outs out1 stage refused → Outcome old new left1 left2 in1 in2 (Err error)
+    → Runs most limit left left2 written written1 (Err (run_error error))
+InRun-failed most limit old new left left1 left2 ins in1 in2 written written1 outs out1 stage refused read.Fault inside outcome =
     let stopped = Run-fault (fresh limit) old new left left1 left2 in1 in2 inside.answered inside.run outcome in
     let all : inside.answered ≡ whole_statements stopped.given = sym stopped.whole ∙ ended-fresh limit stopped.given in
     record {
       given = stopped.given;
-      wrote = replies empty inside.answered;
+      wrote = replies (empty most) inside.answered;
       consumed = stopped.consumed;
       appended = inside.appended;
-      told = record { answered = ap (replies empty) all; within = omega (arith, stopped.within) };
+      told = record { answered = ap (replies (empty most)) all; within = omega (arith, stopped.within) };
     }
-InRun-failed limit old new left left1 left2 ins in1 in2 written written1 outs out1 stage refused (read.TooMuch most) inside outcome =
-    let passed = Run-too_much (fresh limit) old new left left1 left2 in1 in2 most inside.answered inside.run outcome in
+InRun-failed most limit old new left left1 left2 ins in1 in2 written written1 outs out1 stage refused (read.TooMuch passed_limit) inside outcome =
+    let passed = Run-too_much (fresh limit) old new left left1 left2 in1 in2 passed_limit inside.answered inside.run outcome in
     let all : inside.answered ≡ whole_statements passed.bytes = sym passed.whole ∙ ended-fresh limit passed.bytes in
     record {
       given = passed.bytes ++ passed.past ∷ [];
-      wrote = replies empty inside.answered;
+      wrote = replies (empty most) inside.answered;
       consumed = passed.consumed;
       appended = inside.appended;
       told = (
         outcome.answer.0 ∙ inside.run.same_limit,
-        record { bytes = passed.bytes; past = passed.past; split = refl; full = omega (arith, passed.full); answered = ap (replies empty) all },
+        record { bytes = passed.bytes; past = passed.past; split = refl; full = omega (arith, passed.full); answered = ap (replies (empty most)) all },
       );
     }
-InRun-failed limit old new left left1 left2 ins in1 in2 written written1 outs out1 stage refused read.Memory inside outcome =
+InRun-failed most limit old new left left1 left2 ins in1 in2 written written1 outs out1 stage refused read.Memory inside outcome =
     let run = Run-kept (fresh limit) old new left left1 left2 inside.answered outcome.given inside.run outcome.consumed outcome.counted outcome.same_limit outcome.answer in
-    Run-lacked limit new left left2 written written1 inside.answered inside.answered [] run (sym (append-nil inside.answered)) inside.appended
+    Run-lacked most limit new left left2 written written1 inside.answered inside.answered [] run (sym (append-nil inside.answered)) inside.appended
 
-pub InRun-failed_counts : (limit : ℕ) (old new : Reading) (left left1 left2 : Option (List ℕ)) (ins in1 in2 : ℕ) (written written1 : Option (List ℕ)) (outs out1 : ℕ)
+pub InRun-failed_counts : (most limit : ℕ) (old new : Reading) (left left1 left2 : Option (List ℕ)) (ins in1 in2 : ℕ) (written written1 : Option (List ℕ)) (outs out1 : ℕ)
     (stage : CodeStage) (refused : Bool) (error : ReadError)
-    → InRun limit old left left1 ins in1 written written1 outs out1 stage refused → Outcome old new left1 left2 in1 in2 (Err error)
+    → InRun most limit old left left1 ins in1 written written1 outs out1 stage refused → Outcome old new left1 left2 in1 in2 (Err error)
     → Counts ins in2 outs out1 (Err (run_error error))
-InRun-failed_counts limit old new left left1 left2 ins in1 in2 written written1 outs out1 stage refused read.Fault inside outcome =
-    (subst (λ n. Rose n in2) inside.in_same outcome.faults, inside.out_same)
-InRun-failed_counts limit old new left left1 left2 ins in1 in2 written written1 outs out1 stage refused (read.TooMuch most) inside outcome =
-    (outcome.faults ∙ inside.in_same, inside.out_same)
-InRun-failed_counts limit old new left left1 left2 ins in1 in2 written written1 outs out1 stage refused read.Memory inside outcome =
-    (outcome.faults ∙ inside.in_same, inside.out_same)
+InRun-failed_counts most limit old new left left1 left2 ins in1 in2 written written1 outs out1 stage refused read.Fault inside outcome =
+    subst (λ n. Rose n in2) inside.in_same outcome.faults
+InRun-failed_counts most limit old new left left1 left2 ins in1 in2 written written1 outs out1 stage refused (read.TooMuch passed_limit) inside outcome =
+    outcome.faults ∙ inside.in_same
+InRun-failed_counts most limit old new left left1 left2 ins in1 in2 written written1 outs out1 stage refused read.Memory inside outcome =
+    outcome.faults ∙ inside.in_same
 
 -- there was no memory to answer a piece that was read
-pub InRun-lacked : (limit : ℕ) (old new : Reading) (left left1 left2 : Option (List ℕ)) (ins in1 in2 : ℕ) (written written1 : Option (List ℕ)) (outs out1 : ℕ)
+pub InRun-lacked : (most limit : ℕ) (old new : Reading) (left left1 left2 : Option (List ℕ)) (ins in1 in2 : ℕ) (written written1 : Option (List ℕ)) (outs out1 : ℕ)
     (stage : CodeStage) (refused : Bool) (piece : Piece) → (piece ≡ End → ⊥)
-    → InRun limit old left left1 ins in1 written written1 outs out1 stage refused → Outcome old new left1 left2 in1 in2 (Ok piece)
-    → Runs limit left left2 written written1 (Err Memory)
-InRun-lacked limit old new left left1 left2 ins in1 in2 written written1 outs out1 stage refused piece other inside outcome =
+    → InRun most limit old left left1 ins in1 written written1 outs out1 stage refused → Outcome old new left1 left2 in1 in2 (Ok piece)
+    → Runs most limit left left2 written written1 (Err Memory)
+InRun-lacked most limit old new left left1 left2 ins in1 in2 written written1 outs out1 stage refused piece other inside outcome =
     let run = Run-piece (fresh limit) old new left left1 left2 in1 in2 inside.answered piece (IsPiece-from_not_end piece other) inside.run outcome in
-    Run-lacked limit new left left2 written written1 (inside.answered ++ piece ∷ []) inside.answered (piece ∷ []) run refl inside.appended
+    Run-lacked most limit new left left2 written written1 (inside.answered ++ piece ∷ []) inside.answered (piece ∷ []) run refl inside.appended
 
 -- the answer to a piece wasn't written whole
-pub InRun-cut : {E : Type 0} → (limit : ℕ) (old new : Reading) (left left1 left2 : Option (List ℕ)) (ins in1 in2 : ℕ) (written written1 written2 : Option (List ℕ)) (outs out1 : ℕ)
+pub InRun-cut : {E : Type 0} → (most limit : ℕ) (old new : Reading) (left left1 left2 : Option (List ℕ)) (ins in1 in2 : ℕ) (written written1 written2 : Option (List ℕ)) (outs out1 : ℕ)
     (stage : CodeStage) (refused : Bool) (piece : Piece) (a : Answer) (text : List ℕ) (fault : E) → (piece ≡ End → ⊥)
-    → InRun limit old left left1 ins in1 written written1 outs out1 stage refused → Outcome old new left1 left2 in1 in2 (Ok piece)
+    → InRun most limit old left left1 ins in1 written written1 outs out1 stage refused → Outcome old new left1 left2 in1 in2 (Ok piece)
     → IsStep (step (stage_of stage) piece) a → WritesAll {E = E} written1 written2 text (Err fault) → text ≡ a.text.items
-    → Runs limit left left2 written written2 (Err Write)
-InRun-cut limit old new left left1 left2 ins in1 in2 written written1 written2 outs out1 stage refused piece a text fault other inside outcome is_step cut whole =
+    → Runs most limit left left2 written written2 (Err Write)
+InRun-cut most limit old new left left1 left2 ins in1 in2 written written1 written2 outs out1 stage refused piece a text fault other inside outcome is_step cut whole =
     let run = Run-piece (fresh limit) old new left left1 left2 in1 in2 inside.answered piece (IsPiece-from_not_end piece other) inside.run outcome in
     record {
       given = run.given;
-      wrote = replies empty inside.answered ++ cut.0;
+      wrote = replies (empty most) inside.answered ++ cut.0;
       consumed = run.consumed;
-      appended = Appends-trans written written1 written2 (replies empty inside.answered) cut.0 inside.appended cut.1.1;
+      appended = Appends-trans written written1 written2 (replies (empty most) inside.answered) cut.0 inside.appended cut.1.1;
       told = record {
         pieces = inside.answered ++ piece ∷ [];
         unwritten = cut.1.0;
         first = Run-first limit new left left2 (inside.answered ++ piece ∷ []) run;
-        begun = sym (one_more stage inside.answered piece a inside.standing is_step)
-            ∙ ap (λ t. replies empty inside.answered ++ t) (sym whole ∙ cut.1.2) ∙ sym (append_assoc (replies empty inside.answered) cut.0 cut.1.0);
+        begun = sym (one_more most stage inside.answered piece a inside.standing is_step)
+            ∙ ap (λ t. replies (empty most) inside.answered ++ t) (sym whole ∙ cut.1.2) ∙ sym (append_assoc (replies (empty most) inside.answered) cut.0 cut.1.0);
         within = Run-within limit new left left2 (inside.answered ++ piece ∷ []) run;
       };
     }

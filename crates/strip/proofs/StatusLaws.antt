@@ -15,13 +15,13 @@ is_past : (limit n : ℕ) → limit < n → nat_lt limit n ≡ true
 is_past limit n past = grind (arith, nat_tests)
 
 -- 7 exactly where the source gave more bytes than the limit
-pub past_limit : (limit : ℕ) (given wrote : List ℕ) (left : Option (List ℕ)) (result : Result Ended RunError)
-    → Told limit given wrote left result → (status_of result == 7) ≡ nat_lt limit (length given)
-past_limit limit given wrote left (Ok ended) told =
+pub past_limit : (most limit : ℕ) (given wrote : List ℕ) (left : Option (List ℕ)) (result : Result Ended RunError)
+    → Told most limit given wrote left result → (status_of result == 7) ≡ nat_lt limit (length given)
+past_limit most limit given wrote left (Ok ended) told =
     let by_case : (b : Bool) → ((if b then 1 else 0) == 7) ≡ false = λ b. elim b as (λ v. ((if v then 1 else 0) == 7) ≡ false) [ true ↦ refl | false ↦ refl ] in
     by_case ended.refused ∙ sym (not_past limit (length given) told.within)
-past_limit limit given wrote left (Err Read) told = sym (not_past limit (length given) told.within)
-past_limit limit given wrote left (Err Write) told = sym (not_past limit (length given) told.within)
-past_limit limit given wrote left (Err Memory) told = sym (not_past limit (length given) told.within)
-past_limit limit given wrote left (Err (TooMuch most)) told =
+past_limit most limit given wrote left (Err Read) told = sym (not_past limit (length given) told.within)
+past_limit most limit given wrote left (Err Write) told = sym (not_past limit (length given) told.within)
+past_limit most limit given wrote left (Err Memory) told = sym (not_past limit (length given) told.within)
+past_limit most limit given wrote left (Err (TooMuch passed)) told =
     sym (is_past limit (length given) (omega (arith, told.1.full, ap length told.1.split, length-append told.1.bytes (told.1.past ∷ []))))

@@ -10,69 +10,72 @@ use Rattle.strip_ast.specs.Tokens.{token_at, tokens_of}
 use Rattle.strip_meaning.specs.Effect.{effect}
 use Rattle.strip_model.specs.Texts.{line_of_reply}
 use Rattle.strip.specs.Forms.{order_of, order_in}
+use Rattle.strip_ast.specs.Syntax.{names, column, columns, table, stream, step as grammar_step, function, dotted, col, atom, factor, product, sum, comparing, compare, test, conj, expression, whole, item, totalled, total, source, entry, filter, rest, query, plain, derive, enclosed_names, event, bound, unique, manner, trigger, effect as effect_of_rule, rule, maintain, a_value, row, set, insert, put, update, delete, act, begin, show, deed, called, statement}
+use Rattle.strip_parse.specs.Reading.{take_inside}
+use Rattle.strip_parse.specs.Parsed.{reading, parsed}
 use Rattle.strip.specs.Script.{step, answer, is_refused}
 
-pub nothing : answer [] ≡ []
+pub nothing : answer 10 [] ≡ []
 unfolding pieces answer
 nothing = refl
 
 -- a put replaces the row of its key
 pub stocks :
-    answer (codes "table stocks (symbol text, price int, key symbol); ready; put stocks ('IBM', 100); put stocks ('IBM', 101); show stocks;")
+    answer 10 (codes "table stocks (symbol text, price int, key symbol); ready; put stocks ('IBM', 100); put stocks ('IBM', 101); show stocks;")
     ≡ codes "ok\nok\ncount 1\ncount 1\nrows 1\n('IBM', 101)\n"
-unfolding pieces tuple_text keyword_of symbol_of token_at tokens_of effect line_of_reply order_of order_in step answer digits is_utf8 chars encode_utf8
+unfolding pieces tuple_text keyword_of symbol_of token_at tokens_of names column columns table stream grammar_step function dotted col atom factor product sum comparing compare test conj expression whole item totalled total source entry filter rest query plain derive enclosed_names event bound unique manner trigger effect_of_rule rule maintain a_value row set insert put update delete act begin show deed called statement take_inside reading parsed effect line_of_reply order_of order_in step answer digits is_utf8 chars encode_utf8
 stocks = refl
 
 -- what isn't built changes nothing
 pub not_built_yet :
-    answer (codes "table t (a int, key a); ready; put t (1); put t (1); drop t; show t;")
+    answer 10 (codes "table t (a int, key a); ready; put t (1); put t (1); drop t; show t;")
     ≡ codes "ok\nok\ncount 1\ncount 1\nrefused NotBuilt\nrows 1\n(1)\n"
-unfolding pieces tuple_text keyword_of symbol_of token_at tokens_of effect line_of_reply order_of order_in step answer digits
+unfolding pieces tuple_text keyword_of symbol_of token_at tokens_of names column columns table stream grammar_step function dotted col atom factor product sum comparing compare test conj expression whole item totalled total source entry filter rest query plain derive enclosed_names event bound unique manner trigger effect_of_rule rule maintain a_value row set insert put update delete act begin show deed called statement take_inside reading parsed effect line_of_reply order_of order_in step answer digits
 not_built_yet = refl
 
-pub one_is_refused : is_refused (codes "table t (a int, key a); ready; drop t;") ≡ true
-unfolding pieces tuple_text keyword_of symbol_of token_at tokens_of effect line_of_reply order_of order_in step is_refused digits
+pub one_is_refused : is_refused 10 (codes "table t (a int, key a); ready; drop t;") ≡ true
+unfolding pieces tuple_text keyword_of symbol_of token_at tokens_of names column columns table stream grammar_step function dotted col atom factor product sum comparing compare test conj expression whole item totalled total source entry filter rest query plain derive enclosed_names event bound unique manner trigger effect_of_rule rule maintain a_value row set insert put update delete act begin show deed called statement take_inside reading parsed effect line_of_reply order_of order_in step is_refused digits
 one_is_refused = refl
 
-pub nothing_is_refused : is_refused [] ≡ false
+pub nothing_is_refused : is_refused 10 [] ≡ false
 unfolding pieces is_refused
 nothing_is_refused = refl
 
-pub no_put_is_refused : is_refused (codes "table t (a int, key a); ready; put t (1); show t;") ≡ false
-unfolding pieces tuple_text keyword_of symbol_of token_at tokens_of effect line_of_reply order_of order_in step is_refused digits is_utf8 chars encode_utf8
+pub no_put_is_refused : is_refused 10 (codes "table t (a int, key a); ready; put t (1); show t;") ≡ false
+unfolding pieces tuple_text keyword_of symbol_of token_at tokens_of names column columns table stream grammar_step function dotted col atom factor product sum comparing compare test conj expression whole item totalled total source entry filter rest query plain derive enclosed_names event bound unique manner trigger effect_of_rule rule maintain a_value row set insert put update delete act begin show deed called statement take_inside reading parsed effect line_of_reply order_of order_in step is_refused digits is_utf8 chars encode_utf8
 no_put_is_refused = refl
 
 -- a last piece without its `;` has no form
 pub unended :
-    answer (codes "table t (a int, key a); ready; show t")
+    answer 10 (codes "table t (a int, key a); ready; show t")
     ≡ codes "ok\nok\nrefused NotBuilt\n"
-unfolding pieces tuple_text keyword_of symbol_of token_at tokens_of effect line_of_reply order_of order_in step answer digits is_utf8 chars encode_utf8
+unfolding pieces tuple_text keyword_of symbol_of token_at tokens_of names column columns table stream grammar_step function dotted col atom factor product sum comparing compare test conj expression whole item totalled total source entry filter rest query plain derive enclosed_names event bound unique manner trigger effect_of_rule rule maintain a_value row set insert put update delete act begin show deed called statement take_inside reading parsed effect line_of_reply order_of order_in step answer digits is_utf8 chars encode_utf8
 unended = refl
 
 -- rows stand in the order of the key's columns, which may be another than that of the columns
 pub two_keys :
-    answer (codes "table t (a int, b int, key b, a); ready; put t (1, 2); put t (2, -1); show t;")
+    answer 10 (codes "table t (a int, b int, key b, a); ready; put t (1, 2); put t (2, -1); show t;")
     ≡ codes "ok\nok\ncount 1\ncount 1\nrows 2\n(2, -1)\n(1, 2)\n"
-unfolding pieces tuple_text keyword_of symbol_of token_at tokens_of effect line_of_reply order_of order_in step answer digits is_utf8 chars encode_utf8
+unfolding pieces tuple_text keyword_of symbol_of token_at tokens_of names column columns table stream grammar_step function dotted col atom factor product sum comparing compare test conj expression whole item totalled total source entry filter rest query plain derive enclosed_names event bound unique manner trigger effect_of_rule rule maintain a_value row set insert put update delete act begin show deed called statement take_inside reading parsed effect line_of_reply order_of order_in step answer digits is_utf8 chars encode_utf8
 two_keys = refl
 
 -- a row that isn't of the table's columns has no form
 pub no_fit :
-    answer (codes "table t (a int, key a); ready; put t ('1'); put t (2147483648); put t (1, 2); show t;")
+    answer 10 (codes "table t (a int, key a); ready; put t ('1'); put t (2147483648); put t (1, 2); show t;")
     ≡ codes "ok\nok\nrefused NotBuilt\nrefused NotBuilt\nrefused NotBuilt\nrows 0\n"
-unfolding pieces tuple_text keyword_of symbol_of token_at tokens_of effect line_of_reply order_of order_in step answer digits is_utf8 chars encode_utf8
+unfolding pieces tuple_text keyword_of symbol_of token_at tokens_of names column columns table stream grammar_step function dotted col atom factor product sum comparing compare test conj expression whole item totalled total source entry filter rest query plain derive enclosed_names event bound unique manner trigger effect_of_rule rule maintain a_value row set insert put update delete act begin show deed called statement take_inside reading parsed effect line_of_reply order_of order_in step answer digits is_utf8 chars encode_utf8
 no_fit = refl
 
 -- each statement has its stage
 pub out_of_turn :
-    answer (codes "show t; ready; table t (a int, key a); table u (a int, key a); put t (1); ready; ready;")
+    answer 10 (codes "show t; ready; table t (a int, key a); table u (a int, key a); put t (1); ready; ready;")
     ≡ codes "refused NotBuilt\nrefused NotBuilt\nok\nrefused NotBuilt\nrefused NotBuilt\nok\nrefused NotBuilt\n"
-unfolding pieces tuple_text keyword_of symbol_of token_at tokens_of effect line_of_reply order_of order_in step answer digits is_utf8 chars encode_utf8
+unfolding pieces tuple_text keyword_of symbol_of token_at tokens_of names column columns table stream grammar_step function dotted col atom factor product sum comparing compare test conj expression whole item totalled total source entry filter rest query plain derive enclosed_names event bound unique manner trigger effect_of_rule rule maintain a_value row set insert put update delete act begin show deed called statement take_inside reading parsed effect line_of_reply order_of order_in step answer digits is_utf8 chars encode_utf8
 out_of_turn = refl
 
 -- a table needs a key among its columns, which differ
 pub no_tables :
-    answer (codes "table t (a int); table t (a int, key b); table t (a int, a int, key a); table t (a int, key a) limit 5;")
+    answer 10 (codes "table t (a int); table t (a int, key b); table t (a int, a int, key a); table t (a int, key a) limit 5;")
     ≡ codes "refused NotBuilt\nrefused NotBuilt\nrefused NotBuilt\nrefused NotBuilt\n"
-unfolding pieces tuple_text keyword_of symbol_of token_at tokens_of effect line_of_reply order_of order_in step answer digits is_utf8 chars encode_utf8
+unfolding pieces tuple_text keyword_of symbol_of token_at tokens_of names column columns table stream grammar_step function dotted col atom factor product sum comparing compare test conj expression whole item totalled total source entry filter rest query plain derive enclosed_names event bound unique manner trigger effect_of_rule rule maintain a_value row set insert put update delete act begin show deed called statement take_inside reading parsed effect line_of_reply order_of order_in step answer digits is_utf8 chars encode_utf8
 no_tables = refl

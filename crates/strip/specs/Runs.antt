@@ -20,63 +20,63 @@ pub record AreFirst (answered : List Piece) (given : List ℕ) (left : Option (L
 
 -- the source was read to its end within the limit, the answer to its bytes was written, and `refused` says whether a
 -- reply refuses
-pub record RanToEnd (limit : ℕ) (given wrote : List ℕ) (left : Option (List ℕ)) (ended : Ended) : Type 0 where
-  pub answered : wrote ≡ answer given
-  pub refused : ended.refused ≡ is_refused given
+pub record RanToEnd (most limit : ℕ) (given wrote : List ℕ) (left : Option (List ℕ)) (ended : Ended) : Type 0 where
+  pub answered : wrote ≡ answer most given
+  pub refused : ended.refused ≡ is_refused most given
   pub at_end : IsAtEnd left
   pub within : length given ≤ limit
 
 -- a read failed: just the replies to the pieces that ended among the bytes given were written
-pub record ReadFailed (limit : ℕ) (given wrote : List ℕ) : Type 0 where
-  pub answered : wrote ≡ replies empty (whole_statements given)
+pub record ReadFailed (most limit : ℕ) (given wrote : List ℕ) : Type 0 where
+  pub answered : wrote ≡ replies (empty most) (whole_statements given)
   pub within : length given ≤ limit
 
 -- the source gave a byte past the limit: just the replies to the pieces that ended within it were written
-pub record GaveTooMuch (limit : ℕ) (given wrote : List ℕ) : Type 0 where
+pub record GaveTooMuch (most limit : ℕ) (given wrote : List ℕ) : Type 0 where
   pub bytes : List ℕ
   pub past : ℕ
   pub split : given ≡ bytes ++ past ∷ []
   pub full : length bytes ≡ limit
-  pub answered : wrote ≡ replies empty (whole_statements bytes)
+  pub answered : wrote ≡ replies (empty most) (whole_statements bytes)
 
 -- memory was wanting: the replies to some first pieces were written whole
-pub record LackedMemory (limit : ℕ) (given wrote : List ℕ) (left : Option (List ℕ)) : Type 0 where
+pub record LackedMemory (most limit : ℕ) (given wrote : List ℕ) (left : Option (List ℕ)) : Type 0 where
   pub pieces : List Piece
   pub first : AreFirst pieces given left
-  pub answered : wrote ≡ replies empty pieces
+  pub answered : wrote ≡ replies (empty most) pieces
   pub within : length given ≤ limit
 
 -- a write failed: a beginning of the replies to some first pieces was written
-pub record WriteFailed (limit : ℕ) (given wrote : List ℕ) (left : Option (List ℕ)) : Type 0 where
+pub record WriteFailed (most limit : ℕ) (given wrote : List ℕ) (left : Option (List ℕ)) : Type 0 where
   pub pieces : List Piece
   pub unwritten : List ℕ
   pub first : AreFirst pieces given left
-  pub begun : replies empty pieces ≡ wrote ++ unwritten
+  pub begun : replies (empty most) pieces ≡ wrote ++ unwritten
   pub within : length given ≤ limit
 
 -- what a run was given and wrote, by its result
-abbrev pub Told : ℕ → List ℕ → List ℕ → Option (List ℕ) → Result Ended RunError → Type 0
-Told limit given wrote left (Ok ended) = RanToEnd limit given wrote left ended
-Told limit given wrote left (Err Read) = ReadFailed limit given wrote
-Told limit given wrote left (Err Write) = WriteFailed limit given wrote left
-Told limit given wrote left (Err (TooMuch most)) = (most ≡ limit) × GaveTooMuch limit given wrote
-Told limit given wrote left (Err Memory) = LackedMemory limit given wrote left
+abbrev pub Told : ℕ → ℕ → List ℕ → List ℕ → Option (List ℕ) → Result Ended RunError → Type 0
+Told most limit given wrote left (Ok ended) = RanToEnd most limit given wrote left ended
+Told most limit given wrote left (Err Read) = ReadFailed most limit given wrote
+Told most limit given wrote left (Err Write) = WriteFailed most limit given wrote left
+Told most limit given wrote left (Err (TooMuch passed)) = (passed ≡ limit) × GaveTooMuch most limit given wrote
+Told most limit given wrote left (Err Memory) = LackedMemory most limit given wrote left
 
--- a run: all the bytes that the source gave in it, and all that were written
-pub record Runs (limit : ℕ) (left_before left_now written_before written_now : Option (List ℕ)) (result : Result Ended RunError) : Type 0 where
+-- a run where rules may bind so many rows: all the bytes that the source gave in it, and all that were written
+pub record Runs (most limit : ℕ) (left_before left_now written_before written_now : Option (List ℕ)) (result : Result Ended RunError) : Type 0 where
   pub given : List ℕ
   pub wrote : List ℕ
   pub consumed : Consumes left_before left_now given
   pub appended : Appends written_before written_now wrote
-  pub told : Told limit given wrote left_now result
+  pub told : Told most limit given wrote left_now result
 
--- the counts of faults of the source and of the sink: each rises only at its own failure, and else stays
+-- the count of faults of the source rises at a failed read alone, and that of the sink at a failed write
 abbrev pub Counts : ℕ → ℕ → ℕ → ℕ → Result Ended RunError → Type 0
-Counts in_before in_now out_before out_now (Ok ended) = (in_now ≡ in_before) × (out_now ≡ out_before)
-Counts in_before in_now out_before out_now (Err Read) = Rose in_before in_now × (out_now ≡ out_before)
+Counts in_before in_now out_before out_now (Ok ended) = in_now ≡ in_before
+Counts in_before in_now out_before out_now (Err Read) = Rose in_before in_now
 Counts in_before in_now out_before out_now (Err Write) = (in_now ≡ in_before) × Rose out_before out_now
-Counts in_before in_now out_before out_now (Err (TooMuch most)) = (in_now ≡ in_before) × (out_now ≡ out_before)
-Counts in_before in_now out_before out_now (Err Memory) = (in_now ≡ in_before) × (out_now ≡ out_before)
+Counts in_before in_now out_before out_now (Err (TooMuch most)) = in_now ≡ in_before
+Counts in_before in_now out_before out_now (Err Memory) = in_now ≡ in_before
 
 -- an error of reading, as an error of the run
 abbrev pub run_error : ReadError → RunError

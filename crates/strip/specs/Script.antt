@@ -1,5 +1,5 @@
 -- The answer to a script: what each of its pieces is answered, one after another.
-use Rattle.std.specs.Prelude.{ℕ, ◌+◌, Bool, true, false, ◌||◌, ◌&&◌, if◌then◌else◌, List, [], ◌∷◌, ◌++◌, codes, Option, Some, None, is_none}
+use Rattle.std.specs.Prelude.{ℕ, ◌+◌, Bool, true, false, ◌||◌, ◌&&◌, if◌then◌else◌, List, [], ◌∷◌, ◌++◌, codes, get_or, Option, Some, None, is_none}
 use Rattle.std.specs.List.{list_all}
 use Rattle.std.specs.Str.{bytes_eq}
 use Rattle.strip_value.specs.declared.acts.Act.{Act}
@@ -11,13 +11,17 @@ use Rattle.strip_value.specs.declared.pieces.Piece.TheVariants.{Statement, TooLo
 use Rattle.strip_value.specs.declared.tables.TableDef.{TableDef}
 use Rattle.strip_value.specs.declared.values.Value.{Value}
 use Rattle.strip_value.specs.Pieces.{is_blank, pieces}
-use Rattle.strip_value.specs.Table.{Keyed}
-use Rattle.strip_meaning.specs.Effect.{misfit}
+use Rattle.strip_meaning.specs.Effect.{misfit, no_table}
 use Rattle.strip_model.specs.declared.entries.Entry.{Entry}
-use Rattle.strip_model.specs.History.{empty_tables, begins}
+use Rattle.strip_model.specs.History.{begins}
+use Rattle.strip_model.specs.Derived.{Fixed}
 use Rattle.strip_model.specs.Legal.{reply_of}
-use Rattle.strip_model.specs.Says.{Call, to_begin, to_act, to_commit, to_undo, Said, says}
-use Rattle.strip_model.specs.Texts.{line_of_reply}
+use Rattle.strip_model.specs.Says.{Call, to_begin, to_act, to_commit, to_undo, spent, says}
+use Rattle.strip_model.specs.Says.{Answer as SaysAnswer}
+use Rattle.strip_model.specs.Texts.{line_of_reply, line_of_spent}
+use Rattle.strip_engine.specs.State.{fixed_by}
+use Rattle.strip.specs.declared.alone.Outcome.{Outcome}
+use Rattle.strip.specs.declared.alone.Outcome.TheVariants.{Replied, Overspent}
 use Rattle.strip.specs.declared.orders.Order.{Order}
 use Rattle.strip.specs.declared.orders.Order.TheVariants.{Declare, Ready, Put, Show, Other}
 use Rattle.strip.specs.Forms.{order_in}
@@ -29,8 +33,8 @@ abbrev pub with_said : List Entry → Option Entry → List Entry
 with_said past None = past
 with_said past (Some entry) = entry ∷ past
 
-abbrev pub after_call : List Keyed → List Entry → Call → List Entry
-after_call start past call = with_said past (says start past call).entry
+abbrev pub after_call : Fixed → List Entry → Call → List Entry
+after_call f past call = with_said past (says f past call).entry
 
 abbrev pub is_refusal : Reply → Bool
 is_refusal (Rows rows) = false
@@ -42,30 +46,45 @@ abbrev pub begin_for : Act → Call
 begin_for (act.Put table row) = to_begin 0 (table ∷ []) []
 begin_for (act.Show table) = to_begin 0 [] (table ∷ [])
 
--- a refused act is undone, any other committed at moment 0
-abbrev pub end_for : ℕ → Reply → Call
-end_for session reply = if is_refusal reply then to_undo session else to_commit session 0
-
+-- how a transaction of one act ended, and the history after it, newest entry first
 pub record Done : Type 0 where
-  pub reply : Reply
+  pub outcome : Outcome
   pub past : List Entry
 
+abbrev pub undone : Fixed → List Entry → ℕ → Outcome → Done
+undone f did session outcome = record { outcome = outcome; past = after_call f did (to_undo session) }
+
+-- a commit that is refused is followed by an undo
+abbrev pub committed : Fixed → List Entry → ℕ → Reply → Option Entry → SaysAnswer → Done
+committed f did session reply entry (spent total) = undone f did session (Overspent total)
+committed f did session reply entry _ = record { outcome = Replied reply; past = with_said did entry }
+
+-- a refused act is undone, any other committed at moment 0
+abbrev pub ended_for : Fixed → List Entry → ℕ → Reply → Done
+ended_for f did session reply =
+    let said = says f did (to_commit session 0) in
+    if is_refusal reply then undone f did session (Replied reply) else committed f did session reply said.entry said.answer
+
 -- begin, act, and the end that the reply asks for
-abbrev pub done_alone : List Keyed → List Entry → Act → Done
-done_alone start past one =
+abbrev pub done_alone : Fixed → List Entry → Act → Done
+done_alone f past one =
     let session = begins past + 1 in
-    let begun = after_call start past (begin_for one) in
-    let reply = reply_of start begun session one in
-    let did = after_call start begun (to_act session one) in
-    record { reply = reply; past = after_call start did (end_for session reply) }
+    let begun = after_call f past (begin_for one) in
+    let reply = reply_of f begun session one in
+    ended_for f (after_call f begun (to_act session one)) session reply
 
 -- ---- a piece
 
--- how far the script has come: no table yet, a table declared, or the setup closed, with the history, newest entry first
+-- how far the script has come: no table yet, a table declared, each with the most rows that rules may bind; or the setup
+-- closed, with what never changes and the history, newest entry first
 pub data Stage : Type 0 where
-  empty : Stage
-  declared : TableDef → Stage
-  running : TableDef → List Entry → Stage
+  empty : (most : ℕ) → Stage
+  declared : (most : ℕ) → TableDef → Stage
+  running : Fixed → List Entry → Stage
+
+-- the one table of a script
+abbrev pub table_of : Fixed → TableDef
+table_of f = get_or f.defs 0 no_table.def
 
 -- the text of a reply, whether it refuses, and the stage after it
 pub record Step : Type 0 where
@@ -80,13 +99,21 @@ not_built stage = record { text = codes "refused NotBuilt\n"; refused = true; st
 abbrev pub accepted : Stage → Step
 accepted stage = record { text = codes "ok\n"; refused = false; stage = stage }
 
-abbrev pub acted : TableDef → Done → Step
-acted def done = record { text = line_of_reply (def ∷ []) done.reply; refused = is_refusal done.reply; stage = running def done.past }
+abbrev pub outcome_text : List TableDef → Outcome → List ℕ
+outcome_text defs (Replied reply) = line_of_reply defs reply
+outcome_text defs (Overspent total) = line_of_spent total
+
+abbrev pub is_refused_outcome : Outcome → Bool
+is_refused_outcome (Replied reply) = is_refusal reply
+is_refused_outcome (Overspent total) = true
+
+abbrev pub acted : Fixed → Done → Step
+acted f done = record { text = outcome_text f.defs done.outcome; refused = is_refused_outcome done.outcome; stage = running f done.past }
 
 -- an act on the table, if it is named and the act fits it
-abbrev pub act_step : TableDef → List Entry → Bool → Act → Step
-act_step def past false one = not_built (running def past)
-act_step def past true one = acted def (done_alone (empty_tables (def ∷ [])) past one)
+abbrev pub act_step : Fixed → List Entry → Bool → Act → Step
+act_step f past false one = not_built (running f past)
+act_step f past true one = acted f (done_alone f past one)
 
 -- the row has the table's columns
 abbrev pub fits_table : TableDef → List Value → Bool
@@ -94,14 +121,14 @@ fits_table def row = is_none (misfit def.columns row)
 
 -- what a statement is answered
 abbrev pub order_step : Stage → Order → Step
-order_step empty (Declare def) = accepted (declared def)
-order_step empty order = not_built empty
-order_step (declared def) Ready = accepted (running def [])
-order_step (declared def) order = not_built (declared def)
-order_step (running def past) (Put table row) =
-    act_step def past (bytes_eq table def.name && fits_table def row) (act.Put 0 row)
-order_step (running def past) (Show table) = act_step def past (bytes_eq table def.name) (act.Show 0)
-order_step (running def past) order = not_built (running def past)
+order_step (empty most) (Declare def) = accepted (declared most def)
+order_step (empty most) order = not_built (empty most)
+order_step (declared most def) Ready = accepted (running (fixed_by (def ∷ []) most) [])
+order_step (declared most def) order = not_built (declared most def)
+order_step (running f past) (Put table row) =
+    act_step f past (bytes_eq table (table_of f).name && fits_table (table_of f) row) (act.Put 0 row)
+order_step (running f past) (Show table) = act_step f past (bytes_eq table (table_of f).name) (act.Show 0)
+order_step (running f past) order = not_built (running f past)
 
 -- blanks have no reply
 abbrev pub statement_step : Stage → List ℕ → Step
@@ -127,9 +154,9 @@ abbrev pub refuses : Stage → List Piece → Bool
 refuses stage [] = false
 refuses stage (p ∷ ps) = (step stage p).refused || refuses (step stage p).stage ps
 
--- the answer to the bytes of a script, and whether some reply refuses
-unfoldable pub answer : List ℕ → List ℕ
-answer bytes = replies empty (pieces bytes)
+-- the answer to the bytes of a script where rules may bind so many rows, and whether some reply refuses
+unfoldable pub answer : ℕ → List ℕ → List ℕ
+answer most bytes = replies (empty most) (pieces bytes)
 
-unfoldable pub is_refused : List ℕ → Bool
-is_refused bytes = refuses empty (pieces bytes)
+unfoldable pub is_refused : ℕ → List ℕ → Bool
+is_refused most bytes = refuses (empty most) (pieces bytes)

@@ -1,5 +1,5 @@
 -- The status with which the program ends, and what it says of the input and the output.
-use Rattle.std.specs.Prelude.{◌≡◌, ℕ, ◌*◌, ◌==◌, Bool, true, false, not, if◌then◌else◌, nat_lt, List, [], ◌∷◌, codes, String, string_bytes, length, Option, Result, Ok, Err}
+use Rattle.std.specs.Prelude.{◌≡◌, ℕ, ◌*◌, ◌^◌, ◌==◌, Bool, true, false, not, if◌then◌else◌, nat_lt, List, [], ◌∷◌, codes, String, string_bytes, length, Option, Result, Ok, Err}
 use Rattle.std.specs.Str.{bytes_eq}
 use Rattle.std.specs.declared.alloc.Global.{Global}
 use Rattle.strip.specs.declared.run.Ended.{Ended}
@@ -10,6 +10,10 @@ use Rattle.strip.specs.Runs.{Runs, Counts}
 -- the most bytes of a source
 abbrev pub most_bytes : ℕ
 most_bytes = 134217728
+
+-- the most rows that rules may bind
+abbrev pub most_bound : ℕ
+most_bound = 2 ^ 60
 
 -- the words are `script` alone
 abbrev pub asks_script : List (String Global) → Bool
@@ -28,7 +32,7 @@ status_of (Err (TooMuch most)) = 7
 -- a script was run, and this is its status: 7 exactly where the source gave more bytes than a source may have
 pub record RanScript (left_before left_now : Option (List ℕ)) (in_before in_now : ℕ) (written_before written_now : Option (List ℕ)) (out_before out_now : ℕ) (status : ℕ) : Type 0 where
   pub result : Result Ended RunError
-  pub run : Runs most_bytes left_before left_now written_before written_now result
+  pub run : Runs most_bound most_bytes left_before left_now written_before written_now result
   pub counts : Counts in_before in_now out_before out_now result
   pub is : status ≡ status_of result
   pub past_limit : (status == 7) ≡ nat_lt most_bytes (length run.given)

@@ -1,179 +1,25 @@
 //! Reads what a statement asks for.
-ghost use Rattle.std.specs.Prelude.{◌≡◌, ◌≤◌, true, length, map, codes, if◌then◌else◌, Some, None, IfOk};
-ghost use Rattle.strip.specs.Forms.{is_mark, after_mark, is_closed, name_of, value_of, negative_of, list_of, kind_of, column_of, columns_of, all_differ, number_of, key_of, is_sound, table_with, table_keyed, table_columned, table_of, put_of, show_of, ready_of, order_of, order_in};
+ghost use Rattle.std.specs.Prelude.{◌≡◌, ◌≤◌, ◌∷◌, [], true, length, map, option_map, Some, IfOk};
+ghost use Rattle.std.specs.Option.{option_copied};
 ghost use Rattle.std.specs.List.{list_any};
 ghost use Rattle.std.specs.Str.{bytes_eq};
-ghost use Rattle.strip_ast.specs.Marks.{mark_text};
-ghost use Rattle.strip.specs.Readings.{IsAfter, IsItem, IsList, AreColumns};
+ghost use Rattle.strip.specs.Forms.{all_differ, number_of, key_of, is_sound, table_keyed, table_of, column_of, group_of, sum_of, count_of, source_of, grouped_by, derive_with, derive_shown, derive_of, maintain_of, deed_of, called_of, order_of, order_in};
+ghost use Rattle.strip.specs.Readings.{IsList};
 
-use crate::orders::Order;
+use crate::orders::{Derivation, Order};
 use std::alloc::{AllocError, Global};
-use strip_ast::{Mark, ParseFail, Token, TokenList, tokens};
-use strip_value::{ColumnDef, Duplicate, Items, Kind, Name, Row, TableDef, Value};
+use strip_ast::{
+    ColTree, ColTreeList, Deed, EntryTree, Expr, ItemTree, Manner, Origin, ParseFail, QueryTree,
+    Statement, Total,
+};
+use strip_parse::parse;
+use strip_value::{By, ColumnDef, ColumnDefList, Duplicate, Items, Name, NameList, TableDef};
 
 /// The most columns of a table.
 const COLUMNS: usize = 16;
 
 /// The most rows of a table.
 const ROWS: u32 = 1_048_576;
-
-fn is(token: &Token, text: &[u8]) -> bool
-    ensures { result ≡ is_mark text.now token.now }
-{
-    match token {
-        Token::Mark(mark) => mark.text() == text,
-        _ => false,
-    }
-}
-
-fn after<'a>(tokens: &'a [Token], text: &[u8]) -> Option<&'a [Token]>
-    ensures { IsAfter (after_mark text.now tokens.now) result }
-{
-    let (first, rest) = tokens.split_first()?;
-    if is(first, text) { Some(rest) } else { None }
-}
-
-fn closed(tokens: &[Token]) -> bool
-    ensures { result ≡ is_closed tokens.now }
-{
-    match tokens {
-        [token] => is(token, b")"),
-        _ => false,
-    }
-}
-
-fn name(alloc: Global, tokens: &[Token]) -> Result<Option<(Name, &[Token])>, AllocError>
-    ensures { IsItem (name_of tokens.now) result }
-{
-    match tokens {
-        [Token::Name(name), rest @ ..] => Ok(Some((name.copy(alloc)?, rest))),
-        _ => Ok(None),
-    }
-}
-
-fn negative(tokens: &[Token]) -> Result<Option<(Value, &[Token])>, AllocError>
-    ensures { IsItem (negative_of tokens.now) result }
-{
-    match tokens {
-        [Token::Number(digits), rest @ ..] => Ok(Some((Value::Int(digits.negated()), rest))),
-        _ => Ok(None),
-    }
-}
-
-fn value(alloc: Global, tokens: &[Token]) -> Result<Option<(Value, &[Token])>, AllocError>
-    ensures { IsItem (value_of tokens.now) result }
-{
-    match tokens {
-        [Token::Number(digits), rest @ ..] => Ok(Some((Value::Int(digits.signed()), rest))),
-        [Token::Text(text), rest @ ..] => Ok(Some((Value::Text(text.copy(alloc)?), rest))),
-        [Token::Mark(mark), rest @ ..] => minus(*mark, rest),
-        _ => Ok(None),
-    }
-}
-
-fn minus(mark: Mark, rest: &[Token]) -> Result<Option<(Value, &[Token])>, AllocError>
-    ensures { IsItem (if bytes_eq (mark_text mark) (codes "-") then negative_of rest.now else None) result }
-{
-    if mark.text() == b"-".as_slice() {
-        negative(rest)
-    } else {
-        Ok(None)
-    }
-}
-
-fn values(alloc: Global, tokens: &[Token]) -> Result<Option<Vec<Value>>, AllocError>
-    ensures { IsList (list_of value_of (length tokens.now) tokens.now) result }
-{
-    let mut found = Vec::new(alloc);
-    let mut left = tokens;
-    for _turn in 0..tokens.len() {
-        let Some((item, rest)) = value(alloc, left)? else {
-            return Ok(None);
-        };
-        found.push(item)?;
-        let Some(others) = after(rest, b",") else {
-            return Ok(ended(closed(rest), found));
-        };
-        left = others;
-    }
-    Ok(None)
-}
-
-fn names(alloc: Global, tokens: &[Token]) -> Result<Option<Vec<Name>>, AllocError>
-    ensures { IsList (list_of name_of (length tokens.now) tokens.now) result }
-{
-    let mut found = Vec::new(alloc);
-    let mut left = tokens;
-    for _turn in 0..tokens.len() {
-        let Some((item, rest)) = name(alloc, left)? else {
-            return Ok(None);
-        };
-        found.push(item)?;
-        let Some(others) = after(rest, b",") else {
-            return Ok(ended(closed(rest), found));
-        };
-        left = others;
-    }
-    Ok(None)
-}
-
-/// The list, if it was closed.
-fn ended<T: Drop>(closed: bool, found: Vec<T>) -> Option<Vec<T>>
-    ensures { result ≡ (if closed then Some found else None) }
-{
-    if closed { Some(found) } else { None }
-}
-
-fn kind(word: &[u8]) -> Option<Kind>
-    ensures { result ≡ kind_of word.now }
-{
-    if word == b"int".as_slice() {
-        Some(Kind::Int)
-    } else if word == b"text".as_slice() {
-        Some(Kind::Text)
-    } else {
-        None
-    }
-}
-
-fn column(alloc: Global, tokens: &[Token]) -> Result<Option<(ColumnDef, &[Token])>, AllocError>
-    ensures { IsItem (column_of tokens.now) result }
-{
-    match tokens {
-        [Token::Name(name), Token::Mark(mark), rest @ ..] => {
-            let Some(kind) = kind(mark.text()) else {
-                return Ok(None);
-            };
-            let name = name.copy(alloc)?;
-            Ok(Some((ColumnDef { name, kind }, rest)))
-        }
-        _ => Ok(None),
-    }
-}
-
-fn columns(
-    alloc: Global,
-    tokens: &[Token],
-) -> Result<Option<(Vec<ColumnDef>, &[Token])>, AllocError>
-    ensures { AreColumns (columns_of (length tokens.now) tokens.now) result }
-{
-    let mut found = Vec::new(alloc);
-    let mut left = tokens;
-    for _turn in 0..tokens.len() {
-        let Some((item, rest)) = column(alloc, left)? else {
-            return Ok(None);
-        };
-        found.push(item)?;
-        let Some(others) = after(rest, b",") else {
-            return Ok(None);
-        };
-        if let Some(key) = after(others, b"key") {
-            return Ok(Some((found, key)));
-        }
-        left = others;
-    }
-    Ok(None)
-}
 
 /// Whether no name stands twice.
 fn differ(names: &[Name]) -> bool
@@ -242,32 +88,6 @@ fn column_names(alloc: Global, columns: &[ColumnDef]) -> Result<Vec<Name>, Alloc
     Ok(names)
 }
 
-/// The table that was declared, if its columns and its key are sound.
-fn table_of_parts(
-    alloc: Global,
-    name: Name,
-    columns: Vec<ColumnDef>,
-    key: Vec<Name>,
-) -> Result<Order, AllocError>
-    ensures { IfOk result (λ order. order ≡ table_keyed name columns.items (Some key.items)) }
-{
-    if !sound(alloc, columns.as_slice(), key.as_slice())? {
-        return Ok(Order::Other);
-    }
-    let Some(key) = key_numbers(alloc, columns.as_slice(), key.as_slice())? else {
-        return Ok(Order::Other);
-    };
-    Ok(Order::Declare(TableDef {
-        name,
-        columns: Items::from_vec(columns),
-        key: Items::from_vec(key),
-        limit: Some(ROWS),
-        query: None,
-        kept: None,
-        declared: false,
-    }))
-}
-
 fn sound(alloc: Global, columns: &[ColumnDef], key: &[Name]) -> Result<bool, AllocError>
     ensures value { IfOk result (λ sound. sound ≡ is_sound columns.now key.now) }
     ensures few { IfOk result (λ sound. sound ≡ true → length columns.now ≤ 16) }
@@ -279,97 +99,242 @@ fn sound(alloc: Global, columns: &[ColumnDef], key: &[Name]) -> Result<bool, All
     Ok(differ(names.as_slice()) && differ(key))
 }
 
-fn table_order(alloc: Global, tokens: &[Token]) -> Result<Order, AllocError>
-    ensures { IfOk result (λ order. order ≡ table_of (name_of tokens.now)) }
+/// The table that was declared, if its columns and its key are sound.
+fn table_with_key(
+    alloc: Global,
+    name: Name,
+    columns: ColumnDefList,
+    key: &[Name],
+) -> Result<Order, AllocError>
+    ensures { IfOk result (λ order. order ≡ table_keyed name columns key.now) }
 {
-    let Some((table, rest)) = name(alloc, tokens)? else {
+    if !sound(alloc, columns.as_slice(), key)? {
+        return Ok(Order::Other);
+    }
+    let Some(key) = key_numbers(alloc, columns.as_slice(), key)? else {
         return Ok(Order::Other);
     };
-    let Some(rest) = after(rest, b"(") else {
-        return Ok(Order::Other);
-    };
-    let Some((columns, rest)) = columns(alloc, rest)? else {
-        return Ok(Order::Other);
-    };
-    let Some(key) = names(alloc, rest)? else {
-        return Ok(Order::Other);
-    };
-    table_of_parts(alloc, table, columns, key)
+    Ok(Order::Declare(TableDef {
+        name,
+        columns,
+        key: Items::from_vec(key),
+        limit: Some(ROWS),
+        query: None,
+        kept: None,
+        declared: false,
+    }))
 }
 
-fn put_order(alloc: Global, tokens: &[Token]) -> Result<Order, AllocError>
-    ensures { IfOk result (λ order. order ≡ put_of (name_of tokens.now)) }
+fn table_order(
+    alloc: Global,
+    name: Name,
+    columns: ColumnDefList,
+    key: &NameList,
+    limit: Option<u128>,
+) -> Result<Order, AllocError>
+    ensures { IfOk result (λ order. order ≡ table_of name columns key.now limit) }
 {
-    let Some((table, rest)) = name(alloc, tokens)? else {
+    if key.is_empty() || limit.is_some() {
         return Ok(Order::Other);
-    };
-    let Some(rest) = after(rest, b"(") else {
-        return Ok(Order::Other);
-    };
-    let Some(row) = values(alloc, rest)? else {
-        return Ok(Order::Other);
-    };
-    Ok(Order::Put {
-        table,
-        row: Row::of(row),
-    })
+    }
+    table_with_key(alloc, name, columns, key.as_slice())
 }
 
-fn show_order(alloc: Global, tokens: &[Token]) -> Result<Order, AllocError>
-    ensures { IfOk result (λ order. order ≡ show_of (name_of tokens.now)) }
+fn own_column(expr: &Expr) -> Option<&Name>
+    ensures { option_copied result ≡ column_of expr.now }
 {
-    let Some((table, rest)) = name(alloc, tokens)? else {
-        return Ok(Order::Other);
-    };
-    if rest.is_empty() {
-        Ok(Order::Show { table })
-    } else {
-        Ok(Order::Other)
+    match expr {
+        Expr::Column { of: None, name } => Some(name),
+        _ => None,
     }
 }
 
-fn ready_order(rest: &[Token]) -> Order
-    ensures { result ≡ ready_of rest.now }
+fn group_item(item: &ItemTree) -> Option<&Name>
+    ensures { option_copied result ≡ group_of item.now.what item.now.name }
 {
-    if rest.is_empty() {
-        Order::Ready
+    match item {
+        ItemTree {
+            what: Total::Plain(expr),
+            name: None,
+        } => own_column(expr),
+        _ => None,
+    }
+}
+
+/// The column that is added, and the name of the sum.
+fn sum_item(item: &ItemTree) -> Option<(&Name, &Name)>
+    ensures { option_map (λ sum. (sum.0.now, sum.1.now)) result ≡ sum_of item.now.what item.now.name }
+{
+    match item {
+        ItemTree {
+            what: Total::Sum(expr),
+            name: Some(name),
+        } => Some((own_column(expr)?, name)),
+        _ => None,
+    }
+}
+
+fn count_item(item: &ItemTree) -> Option<&Name>
+    ensures { option_copied result ≡ count_of item.now.what item.now.name }
+{
+    match item {
+        ItemTree {
+            what: Total::Count,
+            name: Some(name),
+        } => Some(name),
+        _ => None,
+    }
+}
+
+fn only_table(entries: &[EntryTree]) -> Option<&Name>
+    ensures { option_copied result ≡ source_of entries.now }
+{
+    match entries {
+        [
+            EntryTree {
+                origin: Origin::Table(table),
+                alias: None,
+            },
+        ] => Some(table),
+        _ => None,
+    }
+}
+
+fn only_column(group: &Option<ColTreeList>) -> Option<&Name>
+    ensures { option_copied result ≡ grouped_by group.now }
+{
+    let columns = group.as_ref()?;
+    match columns.as_slice() {
+        [ColTree { of: None, name }] => Some(name),
+        _ => None,
+    }
+}
+
+fn three_differ(first: &Name, second: &Name, third: &Name) -> bool
+    ensures { result ≡ all_differ (first.now ∷ second.now ∷ third.now ∷ []) }
+{
+    second.bytes() != first.bytes()
+        && third.bytes() != first.bytes()
+        && third.bytes() != second.bytes()
+}
+
+/// The derived table of these parts, if it is grouped by the column that it shows and its names differ.
+fn derivation(
+    alloc: Global,
+    name: Name,
+    source: &Name,
+    column: &Name,
+    group: &Name,
+    sum: (&Name, &Name),
+    count_name: &Name,
+) -> Result<Order, AllocError>
+    ensures { IfOk result (λ order. order ≡ derive_with name (Some group.now) (Some (sum.entry.0.now, sum.entry.1.now)) (Some count_name.now) (Some source.now) (Some column.now)) }
+{
+    let (value, sum_name) = sum;
+    if column.bytes() != group.bytes() || !three_differ(group, sum_name, count_name) {
+        return Ok(Order::Other);
+    }
+    Ok(Order::Derive(Derivation {
+        name,
+        source: source.copy(alloc)?,
+        group: group.copy(alloc)?,
+        value: value.copy(alloc)?,
+        sum_name: sum_name.copy(alloc)?,
+        count_name: count_name.copy(alloc)?,
+    }))
+}
+
+/// The derived table whose query shows these items.
+fn derive_items(
+    alloc: Global,
+    name: Name,
+    items: &[ItemTree],
+    source: &Name,
+    column: &Name,
+) -> Result<Order, AllocError>
+    ensures { IfOk result (λ order. order ≡ derive_shown name items.now (Some source.now) (Some column.now)) }
+{
+    let [first, second, third] = items else {
+        return Ok(Order::Other);
+    };
+    let Some(group) = group_item(first) else {
+        return Ok(Order::Other);
+    };
+    let Some(sum) = sum_item(second) else {
+        return Ok(Order::Other);
+    };
+    let Some(count_name) = count_item(third) else {
+        return Ok(Order::Other);
+    };
+    derivation(alloc, name, source, column, group, sum, count_name)
+}
+
+fn derive_order(alloc: Global, name: Name, query: &QueryTree) -> Result<Order, AllocError>
+    ensures { IfOk result (λ order. order ≡ derive_of name query.now) }
+{
+    if query.filter.is_some() {
+        return Ok(Order::Other);
+    }
+    let Some(source) = only_table(query.entries.as_slice()) else {
+        return Ok(Order::Other);
+    };
+    let Some(column) = only_column(&query.group) else {
+        return Ok(Order::Other);
+    };
+    derive_items(alloc, name, query.items.as_slice(), source, column)
+}
+
+fn maintain_order(table: Name, by: By, manner: &Manner) -> Order
+    ensures { result ≡ maintain_of table by manner.now.unique manner.now.after }
+{
+    if by == By::Sum && manner.unique.is_none() && manner.after == 0 {
+        Order::Maintain { table }
     } else {
         Order::Other
     }
 }
 
-#[tactic(auto, unfolding(crate::specs::Forms::order_of))]
-fn order_of_tokens(alloc: Global, tokens: &[Token]) -> Result<Order, AllocError>
-    ensures { IfOk result (λ order. order ≡ order_of tokens.now) }
+fn deed_order(deed: Deed) -> Order
+    ensures { result ≡ deed_of deed }
 {
-    let Some((first, rest)) = tokens.split_first() else {
-        return Ok(Order::Other);
-    };
-    if is(first, b"put") {
-        return put_order(alloc, rest);
+    match deed {
+        Deed::Put { table, row } => Order::Put { table, row },
+        Deed::Show { table } => Order::Show { table },
+        Deed::Start => Order::Start,
+        Deed::Finish { number } => Order::Finish { number },
+        _ => Order::Other,
     }
-    if is(first, b"show") {
-        return show_order(alloc, rest);
-    }
-    if is(first, b"table") {
-        return table_order(alloc, rest);
-    }
-    if is(first, b"ready") {
-        return Ok(ready_order(rest));
-    }
-    Ok(Order::Other)
 }
 
-/// The tokens without their places.
-fn bare(alloc: Global, list: TokenList) -> Result<Vec<Token>, AllocError>
-    ensures { IfOk result (λ tokens. tokens.items ≡ map (λ p. p.token) list) }
+fn called_order(caller: Option<u32>, deed: Deed) -> Order
+    ensures { result ≡ called_of caller deed }
 {
-    let list = list.into_vec();
-    let mut tokens = Vec::with_capacity(alloc, list.len())?;
-    for placed in list {
-        tokens.push(placed.token)?;
+    match caller {
+        None => deed_order(deed),
+        Some(_) => Order::Other,
     }
-    Ok(tokens)
+}
+
+#[tactic(auto, unfolding(crate::specs::Forms::order_of))]
+fn statement_order(alloc: Global, statement: Statement) -> Result<Order, AllocError>
+    ensures { IfOk result (λ order. order ≡ order_of statement) }
+{
+    match statement {
+        Statement::Table {
+            name,
+            columns,
+            key,
+            limit,
+        } => table_order(alloc, name, columns, &key, limit),
+        Statement::Derive { name, query } => derive_order(alloc, name, &query),
+        Statement::Maintain { name, by, manner } => Ok(maintain_order(name, by, &manner)),
+        Statement::Ready => Ok(Order::Ready),
+        Statement::Deed { caller, deed } => Ok(called_order(caller, deed)),
+        Statement::Stream { .. }
+        | Statement::Function { .. }
+        | Statement::Rule { .. }
+        | Statement::At { .. } => Ok(Order::Other),
+    }
 }
 
 /// What the bytes of a statement ask for.
@@ -377,11 +342,8 @@ fn bare(alloc: Global, list: TokenList) -> Result<Vec<Token>, AllocError>
 pub(crate) fn order(alloc: Global, bytes: &[u8]) -> Result<Order, AllocError>
     ensures { IfOk result (λ order. order ≡ order_in bytes.now) }
 {
-    match tokens(alloc, bytes) {
-        Ok(list) => {
-            let tokens = bare(alloc, list)?;
-            order_of_tokens(alloc, tokens.as_slice())
-        }
+    match parse(alloc, bytes) {
+        Ok(statement) => statement_order(alloc, statement),
         Err(ParseFail::Fault(_fault)) => Ok(Order::Other),
         Err(ParseFail::Memory) => Err(AllocError),
     }

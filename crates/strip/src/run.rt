@@ -37,11 +37,11 @@ pub fn run_script<S: Source, K: Sink>(
     limits: Limits,
 ) -> Result<Ended, RunError>
     requires { limits.bound_rows ≤ 2 ^ 60 }
-    ensures run { Runs limit (S.left source.old) (S.left source.new) (K.written out.old) (K.written out.new) result }
+    ensures run { Runs limits.bound_rows limit (S.left source.old) (S.left source.new) (K.written out.old) (K.written out.new) result }
     ensures counts { Counts (S.faults source.old) (S.faults source.new) (K.faults out.old) (K.faults out.new) result }
 {
     let mut reader = Pieces::new(alloc, limit);
-    let mut stage = Stage::Empty;
+    let mut stage = Stage::Empty(limits);
     let mut refused = false;
     'run: loop {
         let piece = match reader.next_statement(source) {
@@ -51,7 +51,7 @@ pub fn run_script<S: Source, K: Sink>(
         match piece {
             Piece::End => return Ok(Ended { refused }),
             piece => {
-                let Ok(answer) = take_piece(alloc, limits, stage, piece) else {
+                let Ok(answer) = take_piece(alloc, stage, piece) else {
                     return Err(RunError::Memory);
                 };
                 let Ok(()) = write_all(out, answer.text.as_slice()) else {

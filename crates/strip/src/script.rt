@@ -1,30 +1,29 @@
 //! What the pieces of a script are answered.
 ghost use Rattle.std.specs.Prelude.{◌≡◌, ◌≤◌, ◌^◌, [], ◌∷◌, IfOk};
 ghost use Rattle.std.specs.List.{list_all};
-ghost use Rattle.strip.specs.Script.{step, accepted, order_step, not_built, statement_step, fits_table, acted, done_alone, is_refusal, empty, declared, running};
+ghost use Rattle.strip.specs.Script.{step, accepted, order_step, not_built, statement_step, fits_table, acted, done_alone, outcome_text as text_of_outcome, is_refused_outcome, empty, declared, running};
 ghost use Rattle.strip.specs.Stages.{stage_of, IsSteady, IsStep, IsIdle, Opens, DeclaresBase, table_of_engine};
 ghost use Rattle.std.specs.Str.{bytes_eq};
 ghost use Rattle.strip_engine.specs.Setup.{IsBase};
-ghost use Rattle.strip_engine.specs.State.{past};
-ghost use Rattle.strip_model.specs.History.{empty_tables};
+ghost use Rattle.strip_engine.specs.State.{past, fixed};
 ghost use Rattle.strip_model.specs.Legal.{Names};
 ghost use Rattle.strip_value.specs.Pieces.{is_blank as blank_byte};
 
-use crate::alone::act_alone;
+use crate::alone::{Outcome, act_alone, refuses};
 use crate::forms::order;
 use crate::orders::Order;
 use std::alloc::{AllocError, Global};
 use strip_engine::{Catalog, Engine, Limits, row_misfit};
-use strip_model::reply_text;
-use strip_value::{Act, Id, Name, Piece, Reply, Row, TableDef};
+use strip_model::{reply_text, spent_text};
+use strip_value::{Act, Id, Name, Piece, Row, TableDef};
 
 /// How far a script has come.
 #[derive(Drop)]
 pub enum Stage {
     /// There is no table yet.
-    Empty,
+    Empty(Limits),
     /// The table is declared, and the setup not closed.
-    Declared(TableDef),
+    Declared { limits: Limits, def: TableDef },
     /// The setup is closed.
     Running(Engine),
 }
@@ -65,7 +64,7 @@ fn accept(alloc: Global, stage: Stage) -> Result<Answer, AllocError>
 fn open(alloc: Global, limits: Limits, def: TableDef) -> Result<Engine, AllocError>
     requires base { IsBase def }
     requires bound { limits.bound_rows ≤ 2 ^ 60 }
-    ensures { IfOk result (Opens def) }
+    ensures { IfOk result (Opens limits.bound_rows def) }
 {
     let mut defs = Vec::with_capacity(alloc, 1)?;
     defs.push(def)?;
@@ -82,12 +81,23 @@ fn table(engine: &Engine) -> &TableDef
     &engine.catalog().defs()[0]
 }
 
-fn refuses(reply: &Reply) -> bool
-    ensures { result ≡ is_refusal reply.now }
+/// The text of an outcome, and whether it is a refusal.
+fn outcome_text(
+    alloc: Global,
+    defs: &[TableDef],
+    outcome: &Outcome,
+) -> Result<(Vec<u8>, bool), AllocError>
+    ensures { IfOk result (λ r. (r.0.items ≡ text_of_outcome defs.now outcome.now) × (r.1 ≡ is_refused_outcome outcome.now)) }
 {
-    match reply {
-        Reply::Refused(_cause) => true,
-        _ => false,
+    match outcome {
+        Outcome::Replied(reply) => {
+            let text = reply_text(alloc, defs, reply)?;
+            Ok((text, refuses(reply)))
+        }
+        Outcome::Overspent { total } => {
+            let text = spent_text(alloc, *total)?;
+            Ok((text, true))
+        }
     }
 }
 
@@ -95,14 +105,14 @@ fn refuses(reply: &Reply) -> bool
 fn act_on(alloc: Global, engine: Engine, act: Act) -> Result<Answer, AllocError>
     requires idle { IsIdle engine }
     requires names { Names 1 act }
-    ensures { IfOk result (IsStep (acted (table_of_engine engine) (done_alone (empty_tables (table_of_engine engine ∷ [])) (past engine) act))) }
+    ensures { IfOk result (IsStep (acted (fixed engine) (done_alone (fixed engine) (past engine) act))) }
 {
     let mut engine = engine;
-    let reply = act_alone(&mut engine, &act)?;
-    let text = reply_text(alloc, engine.catalog().defs(), &reply)?;
+    let outcome = act_alone(&mut engine, &act)?;
+    let (text, refused) = outcome_text(alloc, engine.catalog().defs(), &outcome)?;
     Ok(Answer {
         text,
-        refused: refuses(&reply),
+        refused,
         stage: Stage::Running(engine),
     })
 }
@@ -124,7 +134,7 @@ fn is_fit(engine: &Engine, row: &Row) -> bool
 /// What a statement is answered once the setup is closed.
 fn run_order(alloc: Global, engine: Engine, order: Order) -> Result<Answer, AllocError>
     requires { IsIdle engine }
-    ensures { IfOk result (IsStep (order_step (running (table_of_engine engine) (past engine)) order)) }
+    ensures { IfOk result (IsStep (order_step (running (fixed engine) (past engine)) order)) }
 {
     match order {
         Order::Put { table, row } => {
@@ -146,13 +156,14 @@ fn run_order(alloc: Global, engine: Engine, order: Order) -> Result<Answer, Allo
 }
 
 /// What a statement is answered while the setup isn't closed.
-fn declare_order(alloc: Global, order: Order) -> Result<Answer, AllocError>
-    requires { DeclaresBase order }
-    ensures { IfOk result (IsStep (order_step empty order)) }
+fn declare_order(alloc: Global, limits: Limits, order: Order) -> Result<Answer, AllocError>
+    requires base { DeclaresBase order }
+    requires bound { limits.bound_rows ≤ 2 ^ 60 }
+    ensures { IfOk result (IsStep (order_step (empty limits.bound_rows) order)) }
 {
     match order {
-        Order::Declare(def) => accept(alloc, Stage::Declared(def)),
-        _ => refuse(alloc, Stage::Empty),
+        Order::Declare(def) => accept(alloc, Stage::Declared { limits, def }),
+        _ => refuse(alloc, Stage::Empty(limits)),
     }
 }
 
@@ -160,18 +171,18 @@ fn close_order(
     alloc: Global,
     limits: Limits,
     def: TableDef,
-    order: Order,
+    order: &Order,
 ) -> Result<Answer, AllocError>
     requires base { IsBase def }
     requires bound { limits.bound_rows ≤ 2 ^ 60 }
-    ensures { IfOk result (IsStep (order_step (declared def) order)) }
+    ensures { IfOk result (IsStep (order_step (declared limits.bound_rows def) order.now)) }
 {
     match order {
         Order::Ready => {
             let engine = open(alloc, limits, def)?;
             accept(alloc, Stage::Running(engine))
         }
-        _ => refuse(alloc, Stage::Declared(def)),
+        _ => refuse(alloc, Stage::Declared { limits, def }),
     }
 }
 
@@ -183,14 +194,8 @@ fn is_blank(bytes: &[u8]) -> bool
         .all(|byte| matches!(*byte, b' ' | b'\t' | b'\r' | b'\n'))
 }
 
-fn statement(
-    alloc: Global,
-    limits: Limits,
-    stage: Stage,
-    bytes: &[u8],
-) -> Result<Answer, AllocError>
-    requires steady { IsSteady stage }
-    requires bound { limits.bound_rows ≤ 2 ^ 60 }
+fn statement(alloc: Global, stage: Stage, bytes: &[u8]) -> Result<Answer, AllocError>
+    requires { IsSteady stage }
     ensures { IfOk result (IsStep (statement_step (stage_of stage) bytes.now)) }
 {
     if is_blank(bytes) {
@@ -202,26 +207,20 @@ fn statement(
     }
     let order = order(alloc, bytes)?;
     match stage {
-        Stage::Empty => declare_order(alloc, order),
-        Stage::Declared(def) => close_order(alloc, limits, def, order),
+        Stage::Empty(limits) => declare_order(alloc, limits, order),
+        Stage::Declared { limits, def } => close_order(alloc, limits, def, &order),
         Stage::Running(engine) => run_order(alloc, engine, order),
     }
 }
 
 /// What a piece is answered.
 #[tactic(auto, unfolding(crate::specs::Script::step))]
-pub(crate) fn take_piece(
-    alloc: Global,
-    limits: Limits,
-    stage: Stage,
-    piece: Piece,
-) -> Result<Answer, AllocError>
-    requires steady { IsSteady stage }
-    requires bound { limits.bound_rows ≤ 2 ^ 60 }
+pub(crate) fn take_piece(alloc: Global, stage: Stage, piece: Piece) -> Result<Answer, AllocError>
+    requires { IsSteady stage }
     ensures { IfOk result (IsStep (step (stage_of stage) piece)) }
 {
     match piece {
-        Piece::Statement(bytes) => statement(alloc, limits, stage, bytes.as_slice()),
+        Piece::Statement(bytes) => statement(alloc, stage, bytes.as_slice()),
         _ => refuse(alloc, stage),
     }
 }

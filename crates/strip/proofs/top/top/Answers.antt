@@ -1,5 +1,5 @@
 use Rattle.std.proofs.Common.{◌∙◌, ◌==◌, ap}
-use Rattle.strip.specs.Statuses.{most_bytes}
+use Rattle.strip.specs.Statuses.{most_bytes, most_bound}
 use Rattle.strip.proofs.StatusLaws.{past_limit}
 use Rattle.strip.proofs.top.top.Goals as goal
 
@@ -11,5 +11,5 @@ returns-clause-script g c asked =
       run = run;
       counts = c.run_script.ensures.counts;
       is = c.status.ensures;
-      past_limit = ap (λ s. s == 7) c.status.ensures ∙ past_limit most_bytes run.given run.wrote _ c.run_script.result run.told;
+      past_limit = ap (λ s. s == 7) c.status.ensures ∙ past_limit most_bound most_bytes run.given run.wrote _ c.run_script.result run.told;
     }

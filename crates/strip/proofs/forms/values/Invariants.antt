@@ -1,8 +1,0 @@
-use Rattle.std.proofs.Common.{◌≡◌, ◌++◌, ◌-◌, length}
-use Rattle.std.specs.Prelude.{option_map}
-use Rattle.strip.specs.Forms.{list_of, value_of}
-use Rattle.strip.proofs.forms.values.Given as goal
-
-abbrev pub invariant-loop-turn : goal.invariant-loop-turn
-invariant-loop-turn l =
-    option_map (λ items. l.found.items ++ items) (list_of value_of (length l.tokens - l._turn) l.left) ≡ list_of value_of (length l.tokens) l.tokens
