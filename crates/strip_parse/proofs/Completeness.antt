@@ -14,7 +14,7 @@ mark_begins_at b p (Some x) is some = taken_class (mark b) p.token x is
 mark_begins_at b p None is some = cc
 
 -- a mark begins as itself
-mark_begins : (b : _) (p : Placed) (w : List Placed) → is_some (takes (mark b) p.token) ≡ true → begins_in (marks b ∷ []) (p ∷ w) ≡ true
+pub mark_begins : (b : _) (p : Placed) (w : List Placed) → is_some (takes (mark b) p.token) ≡ true → begins_in (marks b ∷ []) (p ∷ w) ≡ true
 mark_begins b p w some = mark_begins_at b p (takes (mark b) p.token) refl some
 
 tail_stops : {A B : Type 0} (R : List Placed → A → Type 0) (S : List Placed → B → Type 0) (gs : List Class) (v w rest : List Placed) (as_ : List A) (o : Option B) → disjoint gs (marks m.Comma ∷ []) ≡ true → Each (Behind (mark m.Comma) R) v as_ → Maybe (Behind (mark m.Comma) S) w o → begins_in gs rest ≡ false → begins_in gs ((v ++ w) ++ rest) ≡ false

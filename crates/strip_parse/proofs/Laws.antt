@@ -270,7 +270,7 @@ pub begins_some : (cs : List Class) (ts : List Placed) → begins_in cs ts ≡ t
 begins_some cs [] is = cc
 begins_some cs (p ∷ ps) is = omega arith
 
-begins_item : (cs : List Class) (v : List Placed) → begins_in cs (v ++ []) ≡ true → 0 < length v
+pub begins_item : (cs : List Class) (v : List Placed) → begins_in cs (v ++ []) ≡ true → 0 < length v
 begins_item cs v is = omega (arith, begins_some cs (v ++ []) is, length-append v [])
 
 each_stops : {A : Type 0} (R : List Placed → A → Type 0) (cs gs : List Class) → Begins R cs → disjoint gs cs ≡ true → (u rest : List Placed) (as_ : List A) → Each R u as_ → begins_in gs rest ≡ false → begins_in gs (u ++ rest) ≡ false

@@ -5,6 +5,10 @@ pub mod Faults
 pub mod Limits
 pub mod Loops
 pub mod Exact
+pub mod InGrammar
+pub mod Counted
+pub mod CountedSound
+pub mod CountedTaking
 pub mod PrintedTokensFronts
 pub mod PrintedTokens
 pub mod PrintedGrammar

@@ -1,4 +1,4 @@
--- What a statement is printed as is a statement with the same tree.
+-- What a statement is printed as is a statement with the same tree, with no more operators and parentheses.
 use Rattle.std.proofs.Common.{◌≡◌, ℕ, zero, suc, ◌+◌, ◌-◌, ◌<◌, ◌≤◌, ◌^◌, Bool, true, false, nat_lt, List, [], ◌∷◌, ◌++◌, Option, Some, None, is_some, ℤ, pos, negsuc, neg_ℤ, inl, inr, refl, sym, ◌∙◌, ap, subst, append_assoc, arith}
 use Rattle.std.specs.List.{AllByRecursion}
 use Rattle.std.proofs.lemmas.Slice.Eq.{bytes_eq-Decides}
@@ -31,13 +31,13 @@ use Rattle.strip_ast.specs.Marks.{mark_text, same_mark}
 use Rattle.strip_ast.specs.Pieces.{Piece}
 use Rattle.strip_ast.specs.Pieces as piece
 use Rattle.strip_ast.specs.Tokens.{is_grammar_name}
-use Rattle.strip_ast.specs.Grammar.{Terminal, Grammar, terminal, empty, made, both, either, many, commas, outermost, or_enclosed, takes, some_if, Each, Behind, Maybe, Matches}
+use Rattle.strip_ast.specs.Grammar.{Terminal, Grammar, terminal, empty, made, both, either, many, commas, outermost, or_enclosed, takes, some_if, Matches}
 use Rattle.strip_ast.specs.Grammar as grammar
-use Rattle.strip_ast.specs.Syntax.{key, ◌▸◌, ◌◂◌, optional, given, listed, stands, joins, a_name, a_number, joined, chain, or_none, names, column, columns, table, stream, step, function, col_of, dotted, col, atom, factor, product, sum, comparing, compared, compare, test, conj, expression, whole, item, totalled, total, source, entry, filter, rest, query, plain, derive, enclosed_names, event, bound, after_of, unique, manner, trigger, effect, rule, maintain, a_value, row, set, insert, put, update, delete, act, begin, show, deed, called, statement, Within, IsStatement}
+use Rattle.strip_ast.specs.Syntax.{key, ◌▸◌, ◌◂◌, optional, given, listed, stands, joins, a_name, a_number, joined, chain, or_none, names, column, columns, table, stream, step, function, col_of, dotted, col, atom, factor, product, sum, comparing, compared, compare, test, conj, expression, whole, item, totalled, total, source, entry, filter, rest, query, plain, derive, enclosed_names, event, bound, after_of, unique, manner, trigger, effect, rule, maintain, a_value, row, set, insert, put, update, delete, act, begin, show, deed, called, statement, Within}
 use Rattle.strip_ast.specs.Written as written
 use Rattle.strip_ast.specs.Written.{level, expr_pieces, enclosed, enclosed_below, op_mark, op_level, left_level, right_level, statement_pieces}
 use Rattle.strip_ast.proofs.PrintLemmas.{pieces_of_two, pieces_of_not}
-use Rattle.strip_parse.proofs.Exact.{each_more, matches_more, within_more}
+use Rattle.strip_parse.proofs.Counted.{Bounds, Step, BehindCounted, EachCounted, MaybeCounted, Counted, CountedWithin, uncounted, within_uncounted, each_counted, counted_more, room_more, Falls, fewer}
 use Rattle.strip_parse.proofs.PrintedTokens.{piece_tokens, pieces_tokens, SoundToken, sound_placed, SoundTokens, SoundPieces, bare}
 
 -- ---- tokens of pieces
@@ -72,134 +72,162 @@ bare_one k [] is = cc
 bare_one k (p ∷ []) is = (p, refl, cc)
 bare_one k (p ∷ q ∷ ts) is = cc
 
--- ---- room
-
--- more room by so much changes nothing
-within_plus : (n room : ℕ) (u : List Placed) (e : Expr) → Within room u e → Within (room + n) u e
-within_plus zero room u e w =
-    let same : room ≡ room + 0 = omega arith in
-    subst (λ k. Within k u e) same w
-within_plus (suc n) room u e w =
-    let same : suc (room + n) ≡ room + suc n = omega arith in
-    subst (λ k. Within k u e) same (within_more (room + n) u e (within_plus n room u e w))
-
-matches_plus : (n room : ℕ) {A : Type 0} (g : Grammar A) (u : List Placed) (a : A) → Matches (Within room) g u a → Matches (Within (room + n)) g u a
-matches_plus n room g u a r = matches_more (Within room) (Within (room + n)) (within_plus n room) g u a r
-
-matches_beside : (n room : ℕ) {A : Type 0} (g : Grammar A) (u : List Placed) (a : A) → Matches (Within room) g u a → Matches (Within (n + room)) g u a
-matches_beside n room g u a r =
-    let turned : room + n ≡ n + room = omega arith in
-    subst (λ k. Matches (Within k) g u a) turned (matches_plus n room g u a r)
-
 -- ---- what printing again says of one tree
 
--- what may stand in parentheses
-abbrev Inside : Type 1
-Inside = List Placed → Expr → Type 0
+-- what bounds expressions, and how many parentheses at most are open
+record Inside : Type 0 where
+  bounds : Bounds
+  falls : Falls bounds
+  room : ℕ
+
+-- where so many parentheses at most are open
+abbrev with_room : Inside → ℕ → Inside
+with_room I room = record { bounds = I.bounds; falls = I.falls; room = room }
+
+-- the list is matched as the tree, from so many operators to so many
+abbrev Matched : {A : Type 0} → Inside → Grammar A → List Placed → A → ℕ → ℕ → Type 0
+Matched I g u a k l = Counted I.bounds (CountedWithin I.bounds I.room) g u a k l
+
+-- the list is matched as the tree
+abbrev Plain : {A : Type 0} → Inside → Grammar A → List Placed → A → Type 0
+Plain I g u a = Matches (Within I.room) g u a
+
+plain_match : (I : Inside) {A : Type 0} (g : Grammar A) (u : List Placed) (a : A) (k l : ℕ) → Matched I g u a k l → Plain I g u a
+plain_match I g u a k l r =
+    uncounted I.bounds (CountedWithin I.bounds I.room) (Within I.room) (within_uncounted I.bounds I.room) g u a k l r
 
 -- what one grammar matches as a tree, the other matches as a tree of its own
-abbrev IsAlso : {A B : Type 0} → Grammar A → A → Grammar B → B → Type 1
-IsAlso g a h b = (I : Inside) (u : List Placed) → Matches I g u a → Matches I h u b
+abbrev IsAlso : {A B : Type 0} → Inside → Grammar A → A → Grammar B → B → Type 0
+IsAlso I g a h b = (u : List Placed) (k l : ℕ) → Matched I g u a k l → Matched I h u b k l
 
--- the pieces are sound, and any tokens that are theirs, whatever their places, are matched as the tree
-record Printed {A : Type 0} (g : Grammar A) (ps : List Piece) (a : A) : Type 0 where
+-- the pieces are sound, and any tokens that are theirs, whatever their places, are matched as the tree, from no more
+-- operators to no more
+record Printed (I : Inside) {A : Type 0} (g : Grammar A) (ps : List Piece) (a : A) (k l : ℕ) : Type 0 where
   sound : SoundPieces ps
-  again : (ts : List Placed) → bare ts ≡ pieces_tokens ps → (room : ℕ) × Matches (Within room) g ts a
+  again : (ts : List Placed) → bare ts ≡ pieces_tokens ps → (i : ℕ) → i ≤ k → (j : ℕ) × (j ≤ l) × Matched I g ts a i j
 
 -- where a list matched by one grammar is matched by another
-printed_as : {A B : Type 0} (g : Grammar A) (h : Grammar B) (ps : List Piece) (a : A) (b : B) → IsAlso g a h b → Printed g ps a → Printed h ps b
+printed_as : {I : Inside} {A B : Type 0} {k l : ℕ} (g : Grammar A) (h : Grammar B) (ps : List Piece) (a : A) (b : B) → IsAlso I g a h b → Printed I g ps a k l → Printed I h ps b k l
 printed_as g h ps a b f p =
-    record { sound = p.sound; again = λ ts is. let r = p.again ts is in (r.0, f (Within r.0) ts r.1) }
+    record {
+      sound = p.sound;
+      again = λ ts is i few. let r = p.again ts is i few in (r.0, r.1, f ts i r.0 r.2);
+    }
 
-printed_both : {A B : Type 0} (g : Grammar A) (h : Grammar B) (ps qs : List Piece) (c : A × B) → Printed g ps c.0 → Printed h qs c.1 → Printed (both g h) (ps ++ qs) c
+printed_both : {I : Inside} {A B : Type 0} {k n l : ℕ} (g : Grammar A) (h : Grammar B) (ps qs : List Piece) (c : A × B) → Printed I g ps c.0 k n → Printed I h qs c.1 n l → Printed I (both g h) (ps ++ qs) c k l
 printed_both g h ps qs c p q =
     record {
       sound = sound_append ps qs p.sound q.sound;
-      again = λ ts is.
+      again = λ ts is i few.
           let s = bare_split (pieces_tokens ps) (pieces_tokens qs) ts (is ∙ pieces_append ps qs) in
-          let r = p.again s.0 s.3 in
-          let t = q.again s.1 s.4 in
-          (r.0 + t.0, (s.0, s.1, s.2, matches_plus t.0 r.0 g s.0 c.0 r.1, matches_beside r.0 t.0 h s.1 c.1 t.1));
+          let r = p.again s.0 s.3 i few in
+          let t = q.again s.1 s.4 r.0 r.1 in
+          (t.0, t.1, (s.0, s.1, s.2, r.0, r.2, t.2));
     }
 
-printed_one : {A : Type 0} (t : Terminal A) (p : Piece) (k : Token) (a : A) → pieces_tokens (p ∷ []) ≡ k ∷ [] → SoundToken k → takes t k ≡ Some a → Printed (terminal t) (p ∷ []) a
-printed_one t p k a is s taken =
+printed_one : {I : Inside} {A : Type 0} {k l : ℕ} (t : Terminal A) (p : Piece) (x : Token) (a : A) → pieces_tokens (p ∷ []) ≡ x ∷ [] → SoundToken x → takes t x ≡ Some a → Step I.bounds t a k l → Printed I (terminal t) (p ∷ []) a k l
+printed_one {I} {A} {k} {l} t p x a is s taken step' =
     record {
       sound = subst (λ ts. AllByRecursion SoundToken ts) (sym is) (s, tt);
-      again = λ ts same.
-          let o = bare_one k ts (same ∙ is) in
-          (0, (o.0, o.1, ap (takes t) o.2 ∙ taken));
+      again = λ ts same i few.
+          let o = bare_one x ts (same ∙ is) in
+          let r = fewer I.bounds t a i k l I.falls step' few in
+          (r.0, r.1, ((o.0, o.1, ap (takes t) o.2 ∙ taken), r.2));
     }
 
-printed_empty : {A : Type 0} (a : A) → Printed (empty a) [] a
-printed_empty a = record { sound = tt; again = λ ts is. (0, (no_tokens ts is, refl)) }
+printed_empty : {I : Inside} {A : Type 0} {k l : ℕ} (a : A) → l ≡ k → Printed I (empty a) [] a k l
+printed_empty {I} {A} {k} {l} a same =
+    record { sound = tt; again = λ ts is i few. (i, omega arith, (no_tokens ts is, refl, refl)) }
   where
     no_tokens : (ts : List Placed) → bare ts ≡ [] → ts ≡ []
     no_tokens [] is = refl
     no_tokens (p ∷ ts) is = cc
 
+-- from fewer operators too
+printed_fewer : {I : Inside} {A : Type 0} {k n l : ℕ} (g : Grammar A) (ps : List Piece) (a : A) → k ≤ n → Printed I g ps a n l → Printed I g ps a k l
+printed_fewer g ps a few p = record { sound = p.sound; again = λ ts is i few'. p.again ts is i (omega (arith, few, few')) }
+
+-- an expression that is no part of another is counted anew
+printed_outermost : {I : Inside} {A : Type 0} {k l : ℕ} (g : Grammar A) (ps : List Piece) (a : A) → Printed I g ps a 0 l → Printed I (outermost g) ps a k l
+printed_outermost g ps a p = record { sound = p.sound; again = λ ts is i few. p.again ts is 0 (omega arith) }
+
+-- with room for one parenthesis more
+printed_more : {k l : ℕ} (I : Inside) (room : ℕ) {A : Type 0} (g : Grammar A) (ps : List Piece) (a : A) → Printed (with_room I room) g ps a k l → Printed (with_room I (suc room)) g ps a k l
+printed_more I room g ps a p =
+    record {
+      sound = p.sound;
+      again = λ ts is i few.
+          let r = p.again ts is i few in
+          (r.0, r.1, counted_more I.bounds (CountedWithin I.bounds room) (CountedWithin I.bounds (suc room)) (room_more I.bounds room) g ts a i r.0 r.2);
+    }
+
 same_mark_text : (a : OneMark) → some_if (same_mark a a) ≡ Some tt
 same_mark_text a = ap some_if ((bytes_eq-Decides (mark_text a) (mark_text a)).1 refl)
 
-printed_key : (a : OneMark) → Printed (key a) (piece.mark a ∷ []) tt
-printed_key a = printed_one (grammar.mark a) (piece.mark a) (token.Mark a) tt refl tt (same_mark_text a)
+printed_key : {I : Inside} {k l : ℕ} (a : OneMark) → l ≡ k → Printed I (key a) (piece.mark a ∷ []) tt k l
+printed_key a same = printed_one (grammar.mark a) (piece.mark a) (token.Mark a) tt refl tt (same_mark_text a) same
 
-printed_operator : (a : OneMark) → Printed (terminal (grammar.operator a)) (piece.mark a ∷ []) tt
-printed_operator a = printed_one (grammar.operator a) (piece.mark a) (token.Mark a) tt refl tt (same_mark_text a)
+printed_operator : {I : Inside} {k l : ℕ} (a : OneMark) → (I.bounds.counts k ≡ true) × (l ≡ k + 1) → Printed I (terminal (grammar.operator a)) (piece.mark a ∷ []) tt k l
+printed_operator a step' =
+    printed_one (grammar.operator a) (piece.mark a) (token.Mark a) tt refl tt (same_mark_text a) step'
 
 -- ---- what printing again says of a grammar
 
 -- each tree that sound tokens are matched as is printed as sound pieces that are matched as it again
 record Prints (I : Inside) {A : Type 0} (g : Grammar A) (f : A → List Piece) : Type 0 where
-  prints : (u : List Placed) (a : A) → SoundTokens u → Matches I g u a → Printed g (f a) a
+  prints : (u : List Placed) (a : A) (k l : ℕ) → SoundTokens u → Matched I g u a k l → Printed I g (f a) a k l
 
-prints_alike : {I : Inside} {A : Type 0} {g : Grammar A} {f k : A → List Piece} → Prints I g f → ((u : List Placed) (a : A) → Matches I g u a → k a ≡ f a) → Prints I g k
-prints_alike {g = g} {f = f} {k = k} p alike =
-    record { prints = λ u a s r. subst (λ ps. Printed g ps a) (sym (alike u a r)) (p.prints u a s r) }
-
-prints_made : {I : Inside} {A B : Type 0} {g : Grammar A} {h : A → B} {f : A → List Piece} {k : B → List Piece} → Prints I g f → ((u : List Placed) (a : A) → Matches I g u a → k (h a) ≡ f a) → Prints I (made g h) k
-prints_made {g = g} {h = h} {f = f} {k = k} p alike =
+prints_alike : {I : Inside} {A : Type 0} {g : Grammar A} {f k : A → List Piece} → Prints I g f → ((u : List Placed) (a : A) → Plain I g u a → k a ≡ f a) → Prints I g k
+prints_alike {I} {g = g} {f = f} {k = k} p alike =
     record {
-      prints = λ u b s (a, r, is).
-          let one : Printed (made g h) (f a) (h a) = printed_as g (made g h) (f a) a (h a) (λ I v t. (a, t, refl)) (p.prints u a s r) in
-          subst (λ x. Printed (made g h) (k x) x) (sym is) (subst (λ ps. Printed (made g h) ps (h a)) (sym (alike u a r)) one);
+      prints = λ u a i j s r. subst (λ ps. Printed I g ps a i j) (sym (alike u a (plain_match I g u a i j r))) (p.prints u a i j s r);
+    }
+
+prints_made : {I : Inside} {A B : Type 0} {g : Grammar A} {h : A → B} {f : A → List Piece} {k : B → List Piece} → Prints I g f → ((u : List Placed) (a : A) → Plain I g u a → k (h a) ≡ f a) → Prints I (made g h) k
+prints_made {I} {g = g} {h = h} {f = f} {k = k} p alike =
+    record {
+      prints = λ u b i j s (a, r, is).
+          let one : Printed I (made g h) (f a) (h a) i j = printed_as g (made g h) (f a) a (h a) (λ v i' j' t. (a, t, refl)) (p.prints u a i j s r) in
+          subst (λ x. Printed I (made g h) (k x) x i j) (sym is) (subst (λ ps. Printed I (made g h) ps (h a) i j) (sym (alike u a (plain_match I g u a i j r))) one);
     }
 
 prints_both : {I : Inside} {A B : Type 0} {g : Grammar A} {h : Grammar B} {f : A → List Piece} {k : B → List Piece} → Prints I g f → Prints I h k → Prints I (both g h) (λ c. f c.0 ++ k c.1)
 prints_both {g = g} {h = h} {f = f} {k = k} p q =
     record {
-      prints = λ u c s (v, w, split, r, t). printed_both g h (f c.0) (k c.1) c (p.prints v c.0 (sound_left u v w split s) r) (q.prints w c.1 (sound_right u v w split s) t);
+      prints = λ u c i j s (v, w, split, n, r, t). printed_both g h (f c.0) (k c.1) c (p.prints v c.0 i n (sound_left u v w split s) r) (q.prints w c.1 n j (sound_right u v w split s) t);
     }
 
 prints_either : {I : Inside} {A : Type 0} {g h : Grammar A} {f : A → List Piece} → Prints I g f → Prints I h f → Prints I (either g h) f
 prints_either {I} {g = g} {h = h} {f = f} p q = record { prints = one }
   where
-    one : (u : List Placed) (a : _) → SoundTokens u → Matches I (either g h) u a → Printed (either g h) (f a) a
-    one u a s (inl r) = printed_as g (either g h) (f a) a a (λ J v t. inl t) (p.prints u a s r)
-    one u a s (inr r) = printed_as h (either g h) (f a) a a (λ J v t. inr t) (q.prints u a s r)
+    one : (u : List Placed) (a : _) (k l : ℕ) → SoundTokens u → Matched I (either g h) u a k l → Printed I (either g h) (f a) a k l
+    one u a k l s (inl r) = printed_as g (either g h) (f a) a a (λ v i j t. inl t) (p.prints u a k l s r)
+    one u a k l s (inr r) = printed_as h (either g h) (f a) a a (λ v i j t. inr t) (q.prints u a k l s r)
 
 prints_empty : {I : Inside} {A : Type 0} {b : A} {f : A → List Piece} → f b ≡ [] → Prints I (empty b) f
-prints_empty {b = b} {f = f} nil =
-    record { prints = λ u a s (none, is). subst (λ x. Printed (empty b) (f x) x) (sym is) (subst (λ ps. Printed (empty b) ps b) (sym nil) (printed_empty b)) }
+prints_empty {I} {b = b} {f = f} nil =
+    record {
+      prints = λ u a i j s (none, is, same). subst (λ x. Printed I (empty b) (f x) x i j) (sym is) (subst (λ ps. Printed I (empty b) ps b i j) (sym nil) (printed_empty b same));
+    }
 
-each_printed : (I : Inside) {A : Type 0} (g : Grammar A) (f : A → List Piece) (k : List A → List Piece) → Prints I g f → k [] ≡ [] → ((a : A) (as_ : List A) → k (a ∷ as_) ≡ f a ++ k as_) → (u : List Placed) (as_ : List A) → SoundTokens u → Each (Matches I g) u as_ → Printed (many g) (k as_) as_
-each_printed I {A} g f k p nil more u [] s is =
+each_printed : (I : Inside) {A : Type 0} (g : Grammar A) (f : A → List Piece) (k : List A → List Piece) → Prints I g f → k [] ≡ [] → ((a : A) (as_ : List A) → k (a ∷ as_) ≡ f a ++ k as_) → (u : List Placed) (as_ : List A) (i j : ℕ) → SoundTokens u → EachCounted (Matched I g) u as_ i j → Printed I (many g) (k as_) as_ i j
+each_printed I {A} g f k p nil more u [] i j s (is, same) =
     let none : List A = [] in
-    subst (λ ps. Printed (many g) ps none) (sym nil) (printed_as (empty none) (many g) [] none none (λ J v t. t.0) (printed_empty none))
-each_printed I g f k p nil more u (a ∷ as_) s (v, w, split, r, t) =
-    let others = each_printed I g f k p nil more w as_ (sound_right u v w split s) t in
-    let one = printed_both g (many g) (f a) (k as_) (a, as_) (p.prints v a (sound_left u v w split s) r) others in
-    subst (λ ps. Printed (many g) ps (a ∷ as_)) (sym (more a as_)) (printed_as (both g (many g)) (many g) (f a ++ k as_) (a, as_) (a ∷ as_) (λ J x y. y) one)
+    subst (λ ps. Printed I (many g) ps none i j) (sym nil) (printed_as (empty none) (many g) [] none none (λ v i' j' t. (t.0, t.2)) (printed_empty none same))
+each_printed I g f k p nil more u (a ∷ as_) i j s (v, w, split, n, r, t) =
+    let others = each_printed I g f k p nil more w as_ n j (sound_right u v w split s) t in
+    let one = printed_both g (many g) (f a) (k as_) (a, as_) (p.prints v a i n (sound_left u v w split s) r) others in
+    subst (λ ps. Printed I (many g) ps (a ∷ as_) i j) (sym (more a as_)) (printed_as (both g (many g)) (many g) (f a ++ k as_) (a, as_) (a ∷ as_) (λ x i' j' y. y) one)
 
 -- what a list prints, each item behind the other
 prints_many : {I : Inside} {A : Type 0} {g : Grammar A} {f : A → List Piece} {k : List A → List Piece} → Prints I g f → k [] ≡ [] → ((a : A) (as_ : List A) → k (a ∷ as_) ≡ f a ++ k as_) → Prints I (many g) k
-prints_many {I} {A} {g} {f} {k} p nil more = record { prints = λ u as_ s r. each_printed I g f k p nil more u as_ s r }
+prints_many {I} {A} {g} {f} {k} p nil more = record { prints = λ u as_ i j s r. each_printed I g f k p nil more u as_ i j s r }
 
 prints_key : {I : Inside} (a : OneMark) → Prints I (key a) (λ _. piece.mark a ∷ [])
-prints_key a = record { prints = λ u x s r. printed_key a }
+prints_key a = record { prints = λ u x i j s (one, same). printed_key a same }
 
 -- pieces with the same tokens print the same
-printed_tokens : {A : Type 0} (g : Grammar A) (ps qs : List Piece) (a : A) → pieces_tokens ps ≡ pieces_tokens qs → Printed g ps a → Printed g qs a
+printed_tokens : {I : Inside} {A : Type 0} {k l : ℕ} (g : Grammar A) (ps qs : List Piece) (a : A) → pieces_tokens ps ≡ pieces_tokens qs → Printed I g ps a k l → Printed I g qs a k l
 printed_tokens g ps qs a is p =
     record { sound = subst (λ ts. AllByRecursion SoundToken ts) is p.sound; again = λ ts same. p.again ts (same ∙ sym is) }
 
@@ -208,9 +236,9 @@ printed_tokens g ps qs a is p =
 prints_terminal : {I : Inside} {A : Type 0} (t : Terminal A) (f : A → Piece) (k : A → Token) → ((a : A) → pieces_tokens (f a ∷ []) ≡ k a ∷ []) → ((x : Token) (a : A) → takes t x ≡ Some a → SoundToken x → SoundToken (k a)) → ((a : A) → takes t (k a) ≡ Some a) → Prints I (terminal t) (λ a. f a ∷ [])
 prints_terminal t f k is kept back =
     record {
-      prints = λ u a s (p, split, taken).
+      prints = λ u a i j s ((p, split, taken), step').
           let here = subst (λ x. SoundTokens x) split s in
-          printed_one t (f a) (k a) a (is a) (kept p.token a taken here.0) (back a);
+          printed_one t (f a) (k a) a (is a) (kept p.token a taken here.0) (back a) step';
     }
 
 name_kept : (x : Token) (a : List ℕ) → takes grammar.name x ≡ Some a → SoundToken x → is_grammar_name a ≡ true
@@ -259,11 +287,11 @@ prints_text : {I : Inside} → Prints I (terminal grammar.text) (λ t. piece.tex
 prints_text = prints_terminal grammar.text piece.text token.Text (λ t. refl) text_kept (λ t. refl)
 
 -- `-` and a number: two tokens, or one where it is nothing
-printed_negative : {A C : Type 0} (g : Grammar A) (o : Grammar C) (y : C) (x : ℤ → A) → Printed o (piece.mark m.Minus ∷ []) y → ((n : ℕ) → IsAlso a_number n g (x (pos n))) → ((n : ℕ) → IsAlso (both o a_number) (y, n) g (x (neg_ℤ (pos n)))) → (n : ℕ) → Printed a_number (piece.number (pos n) ∷ []) n → Printed g (piece.number (neg_ℤ (pos n)) ∷ []) (x (neg_ℤ (pos n)))
-printed_negative g o y x minus alone behind zero p =
-    printed_as a_number g (piece.number (pos 0) ∷ []) 0 (x (pos 0)) (alone 0) p
-printed_negative g o y x minus alone behind (suc n) p =
-    printed_tokens g (piece.mark m.Minus ∷ piece.number (pos (suc n)) ∷ []) (piece.number (negsuc n) ∷ []) (x (negsuc n)) refl (printed_as (both o a_number) g (piece.mark m.Minus ∷ piece.number (pos (suc n)) ∷ []) (y, suc n) (x (negsuc n)) (behind (suc n)) (printed_both o a_number (piece.mark m.Minus ∷ []) (piece.number (pos (suc n)) ∷ []) (y, suc n) minus p))
+printed_negative : {I : Inside} {A C : Type 0} {k n l : ℕ} (g : Grammar A) (o : Grammar C) (y : C) (x : ℤ → A) → k ≤ n → Printed I o (piece.mark m.Minus ∷ []) y k n → ((i : ℕ) → IsAlso I a_number i g (x (pos i))) → ((i : ℕ) → IsAlso I (both o a_number) (y, i) g (x (neg_ℤ (pos i)))) → (i : ℕ) → Printed I a_number (piece.number (pos i) ∷ []) i n l → Printed I g (piece.number (neg_ℤ (pos i)) ∷ []) (x (neg_ℤ (pos i))) k l
+printed_negative g o y x few minus alone behind zero p =
+    printed_as a_number g (piece.number (pos 0) ∷ []) 0 (x (pos 0)) (alone 0) (printed_fewer a_number (piece.number (pos 0) ∷ []) 0 few p)
+printed_negative g o y x few minus alone behind (suc i) p =
+    printed_tokens g (piece.mark m.Minus ∷ piece.number (pos (suc i)) ∷ []) (piece.number (negsuc i) ∷ []) (x (negsuc i)) refl (printed_as (both o a_number) g (piece.mark m.Minus ∷ piece.number (pos (suc i)) ∷ []) (y, suc i) (x (negsuc i)) (behind (suc i)) (printed_both o a_number (piece.mark m.Minus ∷ []) (piece.number (pos (suc i)) ∷ []) (y, suc i) minus p))
 
 -- ---- words of the grammar
 
@@ -293,7 +321,7 @@ prints_listed p = prints_made (prints_both p (prints_following p)) (λ u c r. re
 
 -- what a grammar matches is a list with something in it
 record Fills (I : Inside) {A : Type 0} (g : Grammar (List A)) : Type 0 where
-  some : (u : List Placed) (as_ : List A) → Matches I g u as_ → (x : A) × (xs : List A) × (as_ ≡ x ∷ xs)
+  some : (u : List Placed) (as_ : List A) → Plain I g u as_ → (x : A) × (xs : List A) × (as_ ≡ x ∷ xs)
 
 fills_listed : {I : Inside} {A : Type 0} (g : Grammar A) → Fills I (listed g)
 fills_listed g = record { some = λ u as_ (c, r, is). (c.0, c.1, is) }
@@ -317,36 +345,38 @@ some_taken : (o : Option (Unit {0})) → is_some o ≡ true → o ≡ Some tt
 some_taken (Some x) is = refl
 some_taken None is = cc
 
-to_behind : (I : Inside) {A : Type 0} (w : OneMark) (g : Grammar A) (u : List Placed) (a : A) → Behind (grammar.mark w) (Matches I g) u a → Matches I (w ▸ g) u a
-to_behind I w g u a (p, v, split, some, r) =
-    ((tt, a), (p ∷ [], v, split, (p, refl, some_taken (takes (grammar.mark w) p.token) some), r), refl)
+to_behind : (I : Inside) {A : Type 0} (w : OneMark) (g : Grammar A) (u : List Placed) (a : A) (k l : ℕ) → BehindCounted (grammar.mark w) (Matched I g) u a k l → Matched I (w ▸ g) u a k l
+to_behind I w g u a k l (p, v, split, some, r) =
+    ((tt, a), (p ∷ [], v, split, k, ((p, refl, some_taken (takes (grammar.mark w) p.token) some), refl), r), refl)
 
-from_behind : (I : Inside) {A : Type 0} (w : OneMark) (g : Grammar A) (u : List Placed) (a : A) → Matches I (w ▸ g) u a → Behind (grammar.mark w) (Matches I g) u a
-from_behind I w g u a (c, (v, x, split, (p, one, taken), r), is) =
-    (p, x, split ∙ ap (λ y. y ++ x) one, ap is_some taken, subst (λ y. Matches I g x y) (sym is) r)
+from_behind : (I : Inside) {A : Type 0} (w : OneMark) (g : Grammar A) (u : List Placed) (a : A) (k l : ℕ) → Matched I (w ▸ g) u a k l → BehindCounted (grammar.mark w) (Matched I g) u a k l
+from_behind I w g u a k l (c, (v, x, split, n, ((p, one, taken), same), r), is) =
+    (p, x, split ∙ ap (λ y. y ++ x) one, ap is_some taken, subst (λ y. Matched I g x y k l) (sym is) (subst (λ i. Matched I g x c.1 i l) same r))
 
-to_optional : (I : Inside) {A : Type 0} (w : OneMark) (g : Grammar A) (u : List Placed) (o : Option A) → Maybe (Behind (grammar.mark w) (Matches I g)) u o → Matches I (optional (w ▸ g)) u o
-to_optional I w g u None nil = inr (nil, refl)
-to_optional I w g u (Some a) r = inl (a, to_behind I w g u a r, refl)
+to_optional : (I : Inside) {A : Type 0} (w : OneMark) (g : Grammar A) (u : List Placed) (o : Option A) (k l : ℕ) → MaybeCounted (BehindCounted (grammar.mark w) (Matched I g)) u o k l → Matched I (optional (w ▸ g)) u o k l
+to_optional I w g u None k l (nil, same) = inr (nil, refl, same)
+to_optional I w g u (Some a) k l r = inl (a, to_behind I w g u a k l r, refl)
 
-from_optional : (I : Inside) {A : Type 0} (w : OneMark) (g : Grammar A) (u : List Placed) (o : Option A) → Matches I (optional (w ▸ g)) u o → Maybe (Behind (grammar.mark w) (Matches I g)) u o
-from_optional I w g u o (inl (a, r, is)) = subst (λ x. Maybe (Behind (grammar.mark w) (Matches I g)) u x) (sym is) (from_behind I w g u a r)
-from_optional I w g u o (inr (nil, is)) = subst (λ x. Maybe (Behind (grammar.mark w) (Matches I g)) u x) (sym is) nil
+from_optional : (I : Inside) {A : Type 0} (w : OneMark) (g : Grammar A) (u : List Placed) (o : Option A) (k l : ℕ) → Matched I (optional (w ▸ g)) u o k l → MaybeCounted (BehindCounted (grammar.mark w) (Matched I g)) u o k l
+from_optional I w g u o k l (inl (a, r, is)) =
+    subst (λ x. MaybeCounted (BehindCounted (grammar.mark w) (Matched I g)) u x k l) (sym is) (from_behind I w g u a k l r)
+from_optional I w g u o k l (inr (nil, is, same)) =
+    subst (λ x. MaybeCounted (BehindCounted (grammar.mark w) (Matched I g)) u x k l) (sym is) (nil, same)
 
 -- a list behind commas is any number of items, and maybe one of another kind
-commas_apart : (I : Inside) {A B : Type 0} (g : Grammar A) (h : Grammar B) (u : List Placed) (c : List A × Option B) → Matches I (commas g h) u c → Matches I (both (many (m.Comma ▸ g)) (optional (m.Comma ▸ h))) u c
-commas_apart I g h u c (v, w, split, r, s) =
-    (v, w, split, each_more (Behind (grammar.mark m.Comma) (Matches I g)) (Matches I (m.Comma ▸ g)) (to_behind I m.Comma g) v c.0 r, to_optional I m.Comma h w c.1 s)
+commas_apart : (I : Inside) {A B : Type 0} (g : Grammar A) (h : Grammar B) (u : List Placed) (c : List A × Option B) (k l : ℕ) → Matched I (commas g h) u c k l → Matched I (both (many (m.Comma ▸ g)) (optional (m.Comma ▸ h))) u c k l
+commas_apart I g h u c k l (v, w, split, n, r, s) =
+    (v, w, split, n, each_counted (BehindCounted (grammar.mark m.Comma) (Matched I g)) (Matched I (m.Comma ▸ g)) (to_behind I m.Comma g) v c.0 k n r, to_optional I m.Comma h w c.1 n l s)
 
-commas_together : (I : Inside) {A B : Type 0} (g : Grammar A) (h : Grammar B) (u : List Placed) (c : List A × Option B) → Matches I (both (many (m.Comma ▸ g)) (optional (m.Comma ▸ h))) u c → Matches I (commas g h) u c
-commas_together I g h u c (v, w, split, r, s) =
-    (v, w, split, each_more (Matches I (m.Comma ▸ g)) (Behind (grammar.mark m.Comma) (Matches I g)) (from_behind I m.Comma g) v c.0 r, from_optional I m.Comma h w c.1 s)
+commas_together : (I : Inside) {A B : Type 0} (g : Grammar A) (h : Grammar B) (u : List Placed) (c : List A × Option B) (k l : ℕ) → Matched I (both (many (m.Comma ▸ g)) (optional (m.Comma ▸ h))) u c k l → Matched I (commas g h) u c k l
+commas_together I g h u c k l (v, w, split, n, r, s) =
+    (v, w, split, n, each_counted (Matched I (m.Comma ▸ g)) (BehindCounted (grammar.mark m.Comma) (Matched I g)) (from_behind I m.Comma g) v c.0 k n r, from_optional I m.Comma h w c.1 n l s)
 
 prints_commas : {I : Inside} {A B : Type 0} {g : Grammar A} {h : Grammar B} {f : A → List Piece} {k : Option B → List Piece} → Prints I g f → Prints I (optional (m.Comma ▸ h)) k → Prints I (commas g h) (λ c. piece.following f c.0 ++ k c.1)
 prints_commas {I} {g = g} {h = h} {f = f} {k = k} p q =
     let apart = prints_both (prints_following p) q in
     record {
-      prints = λ u c s r. printed_as (both (many (m.Comma ▸ g)) (optional (m.Comma ▸ h))) (commas g h) (piece.following f c.0 ++ k c.1) c c (λ J v t. commas_together J g h v c t) (apart.prints u c s (commas_apart I g h u c r));
+      prints = λ u c i j s r. printed_as (both (many (m.Comma ▸ g)) (optional (m.Comma ▸ h))) (commas g h) (piece.following f c.0 ++ k c.1) c c (λ v i' j' t. commas_together I g h v c i' j' t) (apart.prints u c i j s (commas_apart I g h u c i j r));
     }
 
 -- ---- expressions
@@ -362,39 +392,39 @@ grammar_at (suc (suc (suc (suc (suc zero))))) = product
 grammar_at (suc (suc (suc (suc (suc (suc n)))))) = factor
 
 -- the expression prints as what its own level matches
-abbrev Own : Expr → Type 0
-Own e = Printed (grammar_at (level e)) (expr_pieces e) e
+abbrev Own : Inside → Expr → ℕ → ℕ → Type 0
+Own I e k l = Printed I (grammar_at (level e)) (expr_pieces e) e k l
 
-printed_alone : (o : Grammar Op) (g : Grammar Expr) (ps : List Piece) (e : Expr) → Printed g ps e → Printed (chain o g) ps e
+printed_alone : {I : Inside} {k l : ℕ} (o : Grammar Op) (g : Grammar Expr) (ps : List Piece) (e : Expr) → Printed I g ps e k l → Printed I (chain o g) ps e k l
 printed_alone o g ps e p =
-    printed_as g (chain o g) ps e e (λ J v t. ((e, []), (v, [], sym (append-nil v), t, refl), refl)) p
+    printed_as g (chain o g) ps e e (λ v i j t. ((e, []), (v, [], sym (append-nil v), j, t, (refl, refl)), refl)) p
 
-expression_of : (ps : List Piece) (e : Expr) → Printed conj ps e → Printed expression ps e
+expression_of : {I : Inside} {k l : ℕ} (ps : List Piece) (e : Expr) → Printed I conj ps e k l → Printed I expression ps e k l
 unfolding expression
 expression_of ps e p = printed_alone (joins m.Or op.Or) conj ps e p
 
-conj_of : (ps : List Piece) (e : Expr) → Printed test ps e → Printed conj ps e
+conj_of : {I : Inside} {k l : ℕ} (ps : List Piece) (e : Expr) → Printed I test ps e k l → Printed I conj ps e k l
 unfolding conj
 conj_of ps e p = printed_alone (joins m.And op.And) test ps e p
 
-test_of : (ps : List Piece) (e : Expr) → Printed compare ps e → Printed test ps e
+test_of : {I : Inside} {k l : ℕ} (ps : List Piece) (e : Expr) → Printed I compare ps e k l → Printed I test ps e k l
 unfolding test
-test_of ps e p = printed_as compare test ps e e (λ J v t. inr t) p
+test_of ps e p = printed_as compare test ps e e (λ v i j t. inr t) p
 
-compare_of : (ps : List Piece) (e : Expr) → Printed sum ps e → Printed compare ps e
+compare_of : {I : Inside} {k l : ℕ} (ps : List Piece) (e : Expr) → Printed I sum ps e k l → Printed I compare ps e k l
 unfolding compare
 compare_of ps e p =
-    printed_as sum compare ps e e (λ J v t. ((e, None), (v, [], sym (append-nil v), t, inr (refl, refl)), refl)) p
+    printed_as sum compare ps e e (λ v i j t. ((e, None), (v, [], sym (append-nil v), j, t, inr (refl, refl, refl)), refl)) p
 
-sum_of : (ps : List Piece) (e : Expr) → Printed product ps e → Printed sum ps e
+sum_of : {I : Inside} {k l : ℕ} (ps : List Piece) (e : Expr) → Printed I product ps e k l → Printed I sum ps e k l
 unfolding sum
 sum_of ps e p = printed_alone (either (joins m.Plus op.Add) (joins m.Minus op.Sub)) product ps e p
 
-product_of : (ps : List Piece) (e : Expr) → Printed factor ps e → Printed product ps e
+product_of : {I : Inside} {k l : ℕ} (ps : List Piece) (e : Expr) → Printed I factor ps e k l → Printed I product ps e k l
 unfolding product
 product_of ps e p = printed_alone (joins m.Star op.Mul) factor ps e p
 
-one_down : (n : ℕ) (ps : List Piece) (e : Expr) → Printed (grammar_at (suc n)) ps e → Printed (grammar_at n) ps e
+one_down : {I : Inside} {k l : ℕ} (n : ℕ) (ps : List Piece) (e : Expr) → Printed I (grammar_at (suc n)) ps e k l → Printed I (grammar_at n) ps e k l
 one_down zero ps e p = expression_of ps e p
 one_down (suc zero) ps e p = conj_of ps e p
 one_down (suc (suc zero)) ps e p = test_of ps e p
@@ -403,204 +433,233 @@ one_down (suc (suc (suc (suc zero)))) ps e p = sum_of ps e p
 one_down (suc (suc (suc (suc (suc zero))))) ps e p = product_of ps e p
 one_down (suc (suc (suc (suc (suc (suc n)))))) ps e p = p
 
-all_down : (n k : ℕ) (ps : List Piece) (e : Expr) → Printed (grammar_at (k + n)) ps e → Printed (grammar_at k) ps e
-all_down zero k ps e p =
-    let same : k + 0 ≡ k = omega arith in
-    subst (λ l. Printed (grammar_at l) ps e) same p
-all_down (suc n) k ps e p =
-    let same : k + suc n ≡ suc (k + n) = omega arith in
-    all_down n k ps e (one_down (k + n) ps e (subst (λ l. Printed (grammar_at l) ps e) same p))
+all_down : {I : Inside} {k l : ℕ} (n i : ℕ) (ps : List Piece) (e : Expr) → Printed I (grammar_at (i + n)) ps e k l → Printed I (grammar_at i) ps e k l
+all_down {I} {k} {l} zero i ps e p =
+    let same : i + 0 ≡ i = omega arith in
+    subst (λ x. Printed I (grammar_at x) ps e k l) same p
+all_down {I} {k} {l} (suc n) i ps e p =
+    let same : i + suc n ≡ suc (i + n) = omega arith in
+    all_down n i ps e (one_down (i + n) ps e (subst (λ x. Printed I (grammar_at x) ps e k l) same p))
 
 -- what a level matches is matched by each below it
-printed_down : (high low : ℕ) (ps : List Piece) (e : Expr) → low ≤ high → Printed (grammar_at high) ps e → Printed (grammar_at low) ps e
-printed_down high low ps e below p =
+printed_down : {I : Inside} {k l : ℕ} (high low : ℕ) (ps : List Piece) (e : Expr) → low ≤ high → Printed I (grammar_at high) ps e k l → Printed I (grammar_at low) ps e k l
+printed_down {I} {k} {l} high low ps e below p =
     let apart : high ≡ low + (high - low) = omega arith in
-    all_down (high - low) low ps e (subst (λ n. Printed (grammar_at n) ps e) apart p)
+    all_down (high - low) low ps e (subst (λ n. Printed I (grammar_at n) ps e k l) apart p)
 
 -- an expression in parentheses
-printed_enclosed : (ps : List Piece) (e : Expr) → Printed expression ps e → Printed factor (piece.enclosed_by ps) e
+printed_enclosed : {k l : ℕ} (I : Inside) (room : ℕ) (ps : List Piece) (e : Expr) → Printed (with_room I room) expression ps e k l → Printed (with_room I (suc room)) factor (piece.enclosed_by ps) e k l
 unfolding factor
-printed_enclosed ps e p =
-    let closed = printed_both expression (key m.Close) ps (piece.mark m.Close ∷ []) (e, tt) p (printed_key m.Close) in
-    let all = printed_both (key m.Open) (both expression (key m.Close)) (piece.mark m.Open ∷ []) (ps ++ piece.mark m.Close ∷ []) (tt, (e, tt)) (printed_key m.Open) closed in
-    record { sound = all.sound; again = λ ts is. enclosed_within ts e (all.again ts is) }
+printed_enclosed I room ps e p =
+    let closed = printed_both expression (key m.Close) ps (piece.mark m.Close ∷ []) (e, tt) p (printed_key m.Close refl) in
+    let all = printed_both (key m.Open) (both expression (key m.Close)) (piece.mark m.Open ∷ []) (ps ++ piece.mark m.Close ∷ []) (tt, (e, tt)) (printed_key m.Open refl) closed in
+    record {
+      sound = all.sound;
+      again = λ ts is i few. let r = all.again ts is i few in (r.0, r.1, enclosed_within ts e i r.0 r.2);
+    }
   where
-    enclosed_within : (ts : List Placed) (e' : Expr) → ((room : ℕ) × Matches (Within room) (both (key m.Open) (both expression (key m.Close))) ts (tt, (e', tt))) → (room : ℕ) × Matches (Within room) (or_enclosed atom) ts e'
-    enclosed_within ts e' (room, (v, w, split, (p', one, taken), (x, y, split', r, c))) =
-        (suc room, inr (p', w, split ∙ ap (λ z. z ++ w) one, ap is_some taken, (x, y, split', r, c)))
+    enclosed_within : (ts : List Placed) (e' : Expr) (i j : ℕ) → Matched (with_room I room) (both (key m.Open) (both expression (key m.Close))) ts (tt, (e', tt)) i j → Matched (with_room I (suc room)) (or_enclosed atom) ts e' i j
+    enclosed_within ts e' i j (v, w, split, n, ((p', one, taken), same), (x, y, split', n', r, (c, same'))) =
+        inr (p', w, split ∙ ap (λ z. z ++ w) one, ap is_some taken, (x, y, split', subst (λ z. CountedWithin I.bounds (suc room) x e' i z) (sym same') (subst (λ z. CountedWithin I.bounds (suc room) x e' z n') same r), c))
 
-plainly : (e : Expr) → Own e → Printed expression (expr_pieces e) e
+plainly : {I : Inside} {k l : ℕ} (e : Expr) → Own I e k l → Printed I expression (expr_pieces e) e k l
 plainly e p = printed_down (level e) 0 (expr_pieces e) e (omega arith) p
 
-at_level : (low : ℕ) (e : Expr) (b : Bool) → low ≤ 6 → nat_lt (level e) low ≡ b → Own e → Printed (grammar_at low) (enclosed b (expr_pieces e)) e
-at_level low e true few is p =
-    printed_down 6 low (piece.enclosed_by (expr_pieces e)) e few (printed_enclosed (expr_pieces e) e (plainly e p))
-at_level low e false few is p =
+-- an expression of this level or a higher one; or one for which a parenthesis was open
+data Sits (I : Inside) (low : ℕ) (e : Expr) (k l : ℕ) : Type 0 where
+  bare_sits : low ≤ level e → Own I e k l → Sits I low e k l
+  closed_sits : (room : ℕ) → I.room ≡ suc room → Own (with_room I room) e k l → Sits I low e k l
+
+own_of : {I : Inside} {low k l : ℕ} {e : Expr} → Sits I low e k l → Own I e k l
+own_of (bare_sits above p) = p
+own_of {I} {low} {k} {l} {e} (closed_sits room deep p) =
+    subst (λ n. Own (with_room I n) e k l) (sym deep) (printed_more I room (grammar_at (level e)) (expr_pieces e) e p)
+
+sits_down : {I : Inside} {k l : ℕ} (high low : ℕ) (e : Expr) → low ≤ high → Sits I high e k l → Sits I low e k l
+sits_down high low e below (bare_sits above p) = bare_sits (omega arith) p
+sits_down high low e below (closed_sits room deep p) = closed_sits room deep p
+
+too_low : (n low : ℕ) → nat_lt n low ≡ true → low ≤ n → ⊥
+too_low n low is above = grind (arith, nat_tests)
+
+at_level : {I : Inside} {k l : ℕ} (low : ℕ) (e : Expr) (b : Bool) → low ≤ 6 → nat_lt (level e) low ≡ b → Sits I low e k l → Printed I (grammar_at low) (enclosed b (expr_pieces e)) e k l
+at_level low e true few is (bare_sits above p) = absurd (too_low (level e) low is above)
+at_level {I} {k} {l} low e true few is (closed_sits room deep p) =
+    printed_down 6 low (piece.enclosed_by (expr_pieces e)) e few (subst (λ n. Printed (with_room I n) factor (piece.enclosed_by (expr_pieces e)) e k l) (sym deep) (printed_enclosed I room (expr_pieces e) e (plainly e p)))
+at_level low e false few is s =
     let below : low ≤ level e = grind (arith, nat_tests) in
-    printed_down (level e) low (expr_pieces e) e below p
+    printed_down (level e) low (expr_pieces e) e below (own_of s)
 
 -- an operand of this level
-operand_of : (low : ℕ) (e : Expr) → low ≤ 6 → Own e → Printed (grammar_at low) (enclosed_below low e) e
+operand_of : {I : Inside} {k l : ℕ} (low : ℕ) (e : Expr) → low ≤ 6 → Sits I low e k l → Printed I (grammar_at low) (enclosed_below low e) e k l
 operand_of low e few p = at_level low e (nat_lt (level e) low) few refl p
 
 -- ---- two expressions joined
 
-printed_joins : (w : OneMark) (o : Op) → Printed (joins w o) (piece.mark w ∷ []) o
-printed_joins w o =
-    printed_as (terminal (grammar.operator w)) (joins w o) (piece.mark w ∷ []) tt o (λ J v t. (tt, t, refl)) (printed_operator w)
+-- one operator more
+abbrev Joins : Inside → ℕ → ℕ → Type 0
+Joins I k l = (I.bounds.counts k ≡ true) × (l ≡ k + 1)
+
+printed_joins : {I : Inside} {k l : ℕ} (w : OneMark) (o : Op) → Joins I k l → Printed I (joins w o) (piece.mark w ∷ []) o k l
+printed_joins w o one =
+    printed_as (terminal (grammar.operator w)) (joins w o) (piece.mark w ∷ []) tt o (λ v i j t. (tt, t, refl)) (printed_operator w one)
 
 joined_last : (e : Expr) (xs : List (Op × Expr)) (o : Op) (b : Expr) → joined e (xs ++ (o, b) ∷ []) ≡ expr.Two o (joined e xs) b
 joined_last e [] o b = refl
 joined_last e (x ∷ xs) o b = joined_last (expr.Two x.0 e x.1) xs o b
 
-each_last : {A : Type 0} (R : List Placed → A → Type 0) (u v : List Placed) (as_ : List A) (a : A) → Each R u as_ → R v a → Each R (u ++ v) (as_ ++ a ∷ [])
-each_last R u v [] a is r = (v, [], ap (λ x. x ++ v) is ∙ sym (append-nil v), r, refl)
-each_last R u v (b ∷ as_) a (x, y, split, s, more) r =
-    (x, y ++ v, ap (λ z. z ++ v) split ∙ append_assoc x y v, s, each_last R y v as_ a more r)
+each_last : {A : Type 0} (R : List Placed → A → ℕ → ℕ → Type 0) (u v : List Placed) (as_ : List A) (a : A) (k n l : ℕ) → EachCounted R u as_ k n → R v a n l → EachCounted R (u ++ v) (as_ ++ a ∷ []) k l
+each_last R u v [] a k n l (is, same) r =
+    (v, [], ap (λ x. x ++ v) is ∙ sym (append-nil v), l, subst (λ i. R v a i l) same r, (refl, refl))
+each_last R u v (b ∷ as_) a k n l (x, y, split, i, s, more) r =
+    (x, y ++ v, ap (λ z. z ++ v) split ∙ append_assoc x y v, i, s, each_last R y v as_ a i n l more r)
 
-chained : (I : Inside) (o : Grammar Op) (g : Grammar Expr) (x : Op) (a b : Expr) (u : List Placed) → Matches I (both (chain o g) (both o g)) u (a, (x, b)) → Matches I (chain o g) u (expr.Two x a b)
-chained I o g x a b u (v, w, split, ((e, xs), (v1, v2, split1, r, each), is), s) =
-    ((e, xs ++ (x, b) ∷ []), (v1, v2 ++ w, split ∙ ap (λ z. z ++ w) split1 ∙ append_assoc v1 v2 w, r, each_last (Matches I (both o g)) v2 w xs (x, b) each s), ap (λ y. expr.Two x y b) is ∙ sym (joined_last e xs x b))
+chained : (I : Inside) (o : Grammar Op) (g : Grammar Expr) (x : Op) (a b : Expr) (u : List Placed) (k l : ℕ) → Matched I (both (chain o g) (both o g)) u (a, (x, b)) k l → Matched I (chain o g) u (expr.Two x a b) k l
+chained I o g x a b u k l (v, w, split, n, ((e, xs), (v1, v2, split1, n1, r, each), is), s) =
+    ((e, xs ++ (x, b) ∷ []), (v1, v2 ++ w, split ∙ ap (λ z. z ++ w) split1 ∙ append_assoc v1 v2 w, n1, r, each_last (Matched I (both o g)) v2 w xs (x, b) n1 n l each s), ap (λ y. expr.Two x y b) is ∙ sym (joined_last e xs x b))
 
-printed_chained : (o : Grammar Op) (g : Grammar Expr) (w : OneMark) (x : Op) (ps qs : List Piece) (a b : Expr) → Printed (chain o g) ps a → Printed o (piece.mark w ∷ []) x → Printed g qs b → Printed (chain o g) (ps ++ (piece.mark w ∷ qs)) (expr.Two x a b)
-printed_chained o g w x ps qs a b p q r =
-    printed_as (both (chain o g) (both o g)) (chain o g) (ps ++ (piece.mark w ∷ qs)) (a, (x, b)) (expr.Two x a b) (λ J v t. chained J o g x a b v t) (printed_both (chain o g) (both o g) ps (piece.mark w ∷ qs) (a, (x, b)) p (printed_both o g (piece.mark w ∷ []) qs (x, b) q r))
+printed_chained : {I : Inside} {k i j l : ℕ} (o : Grammar Op) (g : Grammar Expr) (w : OneMark) (x : Op) (ps qs : List Piece) (a b : Expr) → Printed I (chain o g) ps a k i → Printed I o (piece.mark w ∷ []) x i j → Printed I g qs b j l → Printed I (chain o g) (ps ++ (piece.mark w ∷ qs)) (expr.Two x a b) k l
+printed_chained {I} o g w x ps qs a b p q r =
+    printed_as (both (chain o g) (both o g)) (chain o g) (ps ++ (piece.mark w ∷ qs)) (a, (x, b)) (expr.Two x a b) (λ v i' j' t. chained I o g x a b v i' j' t) (printed_both (chain o g) (both o g) ps (piece.mark w ∷ qs) (a, (x, b)) p (printed_both o g (piece.mark w ∷ []) qs (x, b) q r))
 
 -- two operands joined are an expression of the operator's level
-own_two : (o : Op) (a b : Expr) → Printed (grammar_at (op_level o)) (enclosed_below (left_level o) a ++ (piece.mark (op_mark o) ∷ enclosed_below (right_level o) b)) (expr.Two o a b) → Own (expr.Two o a b)
-own_two o a b p =
-    subst (λ ps. Printed (grammar_at (op_level o)) ps (expr.Two o a b)) (sym (pieces_of_two o a b)) p
+own_two : {I : Inside} {k l : ℕ} (o : Op) (a b : Expr) → Printed I (grammar_at (op_level o)) (enclosed_below (left_level o) a ++ (piece.mark (op_mark o) ∷ enclosed_below (right_level o) b)) (expr.Two o a b) k l → Sits I (op_level o) (expr.Two o a b) k l
+own_two {I} {k} {l} o a b p =
+    bare_sits (omega arith) (subst (λ ps. Printed I (grammar_at (op_level o)) ps (expr.Two o a b) k l) (sym (pieces_of_two o a b)) p)
 
-joined_or : (a b : Expr) → Own a → Own b → Printed expression (enclosed_below 0 a ++ (piece.mark m.Or ∷ enclosed_below 1 b)) (expr.Two op.Or a b)
+joined_or : {I : Inside} {k i j l : ℕ} (a b : Expr) → Joins I i j → Sits I 0 a k i → Sits I 1 b j l → Printed I expression (enclosed_below 0 a ++ (piece.mark m.Or ∷ enclosed_below 1 b)) (expr.Two op.Or a b) k l
 unfolding expression
-joined_or a b p q =
-    printed_chained (joins m.Or op.Or) conj m.Or op.Or (enclosed_below 0 a) (enclosed_below 1 b) a b (operand_of 0 a (omega arith) p) (printed_joins m.Or op.Or) (operand_of 1 b (omega arith) q)
+joined_or a b one p q =
+    printed_chained (joins m.Or op.Or) conj m.Or op.Or (enclosed_below 0 a) (enclosed_below 1 b) a b (operand_of 0 a (omega arith) p) (printed_joins m.Or op.Or one) (operand_of 1 b (omega arith) q)
 
-joined_and : (a b : Expr) → Own a → Own b → Printed conj (enclosed_below 1 a ++ (piece.mark m.And ∷ enclosed_below 2 b)) (expr.Two op.And a b)
+joined_and : {I : Inside} {k i j l : ℕ} (a b : Expr) → Joins I i j → Sits I 1 a k i → Sits I 2 b j l → Printed I conj (enclosed_below 1 a ++ (piece.mark m.And ∷ enclosed_below 2 b)) (expr.Two op.And a b) k l
 unfolding conj
-joined_and a b p q =
-    printed_chained (joins m.And op.And) test m.And op.And (enclosed_below 1 a) (enclosed_below 2 b) a b (operand_of 1 a (omega arith) p) (printed_joins m.And op.And) (operand_of 2 b (omega arith) q)
+joined_and a b one p q =
+    printed_chained (joins m.And op.And) test m.And op.And (enclosed_below 1 a) (enclosed_below 2 b) a b (operand_of 1 a (omega arith) p) (printed_joins m.And op.And one) (operand_of 2 b (omega arith) q)
 
-joined_star : (a b : Expr) → Own a → Own b → Printed product (enclosed_below 5 a ++ (piece.mark m.Star ∷ enclosed_below 6 b)) (expr.Two op.Mul a b)
+joined_star : {I : Inside} {k i j l : ℕ} (a b : Expr) → Joins I i j → Sits I 5 a k i → Sits I 6 b j l → Printed I product (enclosed_below 5 a ++ (piece.mark m.Star ∷ enclosed_below 6 b)) (expr.Two op.Mul a b) k l
 unfolding product
-joined_star a b p q =
-    printed_chained (joins m.Star op.Mul) factor m.Star op.Mul (enclosed_below 5 a) (enclosed_below 6 b) a b (operand_of 5 a (omega arith) p) (printed_joins m.Star op.Mul) (operand_of 6 b (omega arith) q)
+joined_star a b one p q =
+    printed_chained (joins m.Star op.Mul) factor m.Star op.Mul (enclosed_below 5 a) (enclosed_below 6 b) a b (operand_of 5 a (omega arith) p) (printed_joins m.Star op.Mul one) (operand_of 6 b (omega arith) q)
 
 -- how sums are joined
 abbrev summing : Grammar Op
 summing = either (joins m.Plus op.Add) (joins m.Minus op.Sub)
 
-joined_sum : (w : OneMark) (o : Op) (a b : Expr) → IsAlso (joins w o) o summing o → Own a → Own b → Printed sum (enclosed_below 4 a ++ (piece.mark w ∷ enclosed_below 5 b)) (expr.Two o a b)
+joined_sum : {I : Inside} {k i j l : ℕ} (w : OneMark) (o : Op) (a b : Expr) → IsAlso I (joins w o) o summing o → Joins I i j → Sits I 4 a k i → Sits I 5 b j l → Printed I sum (enclosed_below 4 a ++ (piece.mark w ∷ enclosed_below 5 b)) (expr.Two o a b) k l
 unfolding sum
-joined_sum w o a b f p q =
-    printed_chained summing product w o (enclosed_below 4 a) (enclosed_below 5 b) a b (operand_of 4 a (omega arith) p) (printed_as (joins w o) summing (piece.mark w ∷ []) o o f (printed_joins w o)) (operand_of 5 b (omega arith) q)
+joined_sum w o a b f one p q =
+    printed_chained summing product w o (enclosed_below 4 a) (enclosed_below 5 b) a b (operand_of 4 a (omega arith) p) (printed_as (joins w o) summing (piece.mark w ∷ []) o o f (printed_joins w o one)) (operand_of 5 b (omega arith) q)
 
-joined_compared : (w : OneMark) (o : Op) (a b : Expr) → IsAlso (joins w o) o comparing o → Own a → Own b → Printed compare (enclosed_below 4 a ++ (piece.mark w ∷ enclosed_below 4 b)) (expr.Two o a b)
+joined_compared : {I : Inside} {k i j l : ℕ} (w : OneMark) (o : Op) (a b : Expr) → IsAlso I (joins w o) o comparing o → Joins I i j → Sits I 4 a k i → Sits I 4 b j l → Printed I compare (enclosed_below 4 a ++ (piece.mark w ∷ enclosed_below 4 b)) (expr.Two o a b) k l
 unfolding compare
-joined_compared w o a b f p q =
-    let here = printed_as (joins w o) comparing (piece.mark w ∷ []) o o f (printed_joins w o) in
+joined_compared w o a b f one p q =
+    let here = printed_as (joins w o) comparing (piece.mark w ∷ []) o o f (printed_joins w o one) in
     let right = printed_both comparing sum (piece.mark w ∷ []) (enclosed_below 4 b) (o, b) here (operand_of 4 b (omega arith) q) in
     let all = printed_both sum (both comparing sum) (enclosed_below 4 a) (piece.mark w ∷ enclosed_below 4 b) (a, (o, b)) (operand_of 4 a (omega arith) p) right in
-    printed_as (both sum (both comparing sum)) (made (both sum (optional (both comparing sum))) compared) (enclosed_below 4 a ++ (piece.mark w ∷ enclosed_below 4 b)) (a, (o, b)) (expr.Two o a b) (λ J u (x, y, split, s, t). ((a, Some (o, b)), (x, y, split, s, inl ((o, b), t, refl)), refl)) all
+    printed_as (both sum (both comparing sum)) (made (both sum (optional (both comparing sum))) compared) (enclosed_below 4 a ++ (piece.mark w ∷ enclosed_below 4 b)) (a, (o, b)) (expr.Two o a b) (λ u i' j' (x, y, split, n, s, t). ((a, Some (o, b)), (x, y, split, n, s, inl ((o, b), t, refl)), refl)) all
 
-joined_not : (e : Expr) → Own e → Printed test (piece.mark m.Not ∷ enclosed_below 3 e) (expr.Not e)
+joined_not : {I : Inside} {k i l : ℕ} (e : Expr) → Joins I k i → Sits I 3 e i l → Printed I test (piece.mark m.Not ∷ enclosed_below 3 e) (expr.Not e) k l
 unfolding test
-joined_not e p =
-    let all = printed_both (terminal (grammar.operator m.Not)) compare (piece.mark m.Not ∷ []) (enclosed_below 3 e) (tt, e) (printed_operator m.Not) (operand_of 3 e (omega arith) p) in
-    printed_as (both (terminal (grammar.operator m.Not)) compare) (either (made (both (terminal (grammar.operator m.Not)) compare) (λ c. expr.Not c.1)) compare) (piece.mark m.Not ∷ enclosed_below 3 e) (tt, e) (expr.Not e) (λ J u t. inl ((tt, e), t, refl)) all
+joined_not e one p =
+    let all = printed_both (terminal (grammar.operator m.Not)) compare (piece.mark m.Not ∷ []) (enclosed_below 3 e) (tt, e) (printed_operator m.Not one) (operand_of 3 e (omega arith) p) in
+    printed_as (both (terminal (grammar.operator m.Not)) compare) (either (made (both (terminal (grammar.operator m.Not)) compare) (λ c. expr.Not c.1)) compare) (piece.mark m.Not ∷ enclosed_below 3 e) (tt, e) (expr.Not e) (λ u i' j' t. inl ((tt, e), t, refl)) all
 
-own_not : (e : Expr) → Own e → Own (expr.Not e)
-own_not e p = subst (λ ps. Printed test ps (expr.Not e)) (sym (pieces_of_not e)) (joined_not e p)
+own_not : {I : Inside} {k i l : ℕ} (e : Expr) → Joins I k i → Sits I 3 e i l → Sits I 2 (expr.Not e) k l
+own_not {I} {k} {i} {l} e one p =
+    bare_sits (omega arith) (subst (λ ps. Printed I test ps (expr.Not e) k l) (sym (pieces_of_not e)) (joined_not e one p))
 
 -- ---- the trees of expressions
 
--- what each tree that sound tokens are matched as prints as, its own level matches
-abbrev Owned : Inside → Grammar Expr → Type 0
-Owned I g = (u : List Placed) (e : Expr) → SoundTokens u → Matches I g u e → Own e
+-- where each tree that sound tokens are matched as sits
+abbrev Owned : Inside → ℕ → Grammar Expr → Type 0
+Owned I low g = (u : List Placed) (e : Expr) (k l : ℕ) → SoundTokens u → Matched I g u e k l → Sits I low e k l
 
 -- the same of what may stand in parentheses
 record Inner (I : Inside) : Type 0 where
-  owned : (u : List Placed) (e : Expr) → SoundTokens u → I u e → Own e
+  owned : (u : List Placed) (e : Expr) (k l : ℕ) → SoundTokens u → CountedWithin I.bounds I.room u e k l → Sits I 6 e k l
 
--- two expressions joined by one of these operators print as what its level matches
-abbrev TwoOwned : Inside → Grammar Op → Type 0
-TwoOwned I o = (v : List Placed) (x : Op) (a b : Expr) → Matches I o v x → Own a → Own b → Own (expr.Two x a b)
+-- two expressions joined by one of these operators sit at its level
+abbrev TwoOwned : Inside → ℕ → ℕ → ℕ → Grammar Op → Type 0
+TwoOwned I low left right o =
+    (v : List Placed) (x : Op) (a b : Expr) (k i j l : ℕ) → Matched I o v x i j → Sits I left a k i → Sits I right b j l → Sits I low (expr.Two x a b) k l
 
-owned_joined : (I : Inside) (o : Grammar Op) (g : Grammar Expr) → TwoOwned I o → Owned I g → (u : List Placed) (a : Expr) (xs : List (Op × Expr)) → SoundTokens u → Own a → Each (Matches I (both o g)) u xs → Own (joined a xs)
-owned_joined I o g two h u a [] s p r = p
-owned_joined I o g two h u a (x ∷ xs) s p (v, w, split, (y, z, split', r, t), more) =
+owned_joined : (I : Inside) (low : ℕ) (o : Grammar Op) (g : Grammar Expr) → TwoOwned I low low (suc low) o → Owned I (suc low) g → (u : List Placed) (a : Expr) (xs : List (Op × Expr)) (k n l : ℕ) → SoundTokens u → Sits I low a k n → EachCounted (Matched I (both o g)) u xs n l → Sits I low (joined a xs) k l
+owned_joined I low o g two h u a [] k n l s p (nil, same) = subst (λ i. Sits I low a k i) (sym same) p
+owned_joined I low o g two h u a (x ∷ xs) k n l s p (v, w, split, n1, (y, z, split', n2, r, t), more) =
     let here = sound_left u v w split s in
-    owned_joined I o g two h w (expr.Two x.0 a x.1) xs (sound_right u v w split s) (two y x.0 a x.1 r p (h z x.1 (sound_right v y z split' here) t)) more
+    owned_joined I low o g two h w (expr.Two x.0 a x.1) xs k n1 l (sound_right u v w split s) (two y x.0 a x.1 k n n2 n1 r p (h z x.1 n2 n1 (sound_right v y z split' here) t)) more
 
-owned_chain : (I : Inside) (o : Grammar Op) (g : Grammar Expr) → TwoOwned I o → Owned I g → Owned I (chain o g)
-owned_chain I o g two h u e s (c, (v, w, split, r, each), is) =
-    subst (λ x. Own x) (sym is) (owned_joined I o g two h w c.0 c.1 (sound_right u v w split s) (h v c.0 (sound_left u v w split s) r) each)
+owned_chain : (I : Inside) (low : ℕ) (o : Grammar Op) (g : Grammar Expr) → TwoOwned I low low (suc low) o → Owned I (suc low) g → Owned I low (chain o g)
+owned_chain I low o g two h u e k l s (c, (v, w, split, n, r, each), is) =
+    subst (λ x. Sits I low x k l) (sym is) (owned_joined I low o g two h w c.0 c.1 k n l (sound_right u v w split s) (sits_down (suc low) low c.0 (omega arith) (h v c.0 k n (sound_left u v w split s) r)) each)
 
 -- where the operator is this one
-two_of : (I : Inside) (w : OneMark) (o x : Op) (v : List Placed) (a b : Expr) → Own (expr.Two o a b) → Matches I (joins w o) v x → Own (expr.Two x a b)
-two_of I w o x v a b p (c, r, is) = subst (λ y. Own (expr.Two y a b)) (sym is) p
+two_of : (I : Inside) (low : ℕ) (w : OneMark) (o x : Op) (v : List Placed) (a b : Expr) (k i j l : ℕ) → (Joins I i j → Sits I low (expr.Two o a b) k l) → Matched I (joins w o) v x i j → Sits I low (expr.Two x a b) k l
+two_of I low w o x v a b k i j l f (c, (one, step'), is) = subst (λ y. Sits I low (expr.Two y a b) k l) (sym is) (f step')
 
-owned_factor : (I : Inside) → Inner I → Owned I atom → Owned I factor
+owned_factor : (I : Inside) → Inner I → Owned I 6 atom → Owned I 6 factor
 unfolding factor
-owned_factor I inner h u e s (inl r) = h u e s r
-owned_factor I inner h u e s (inr (p, v, split, some, (x, y, split', i, c))) =
-    inner.owned x e (sound_left v x y split' (sound_right u (p ∷ []) v split s)) i
+owned_factor I inner h u e k l s (inl r) = h u e k l s r
+owned_factor I inner h u e k l s (inr (p, v, split, some, (x, y, split', i, c))) =
+    inner.owned x e k l (sound_left v x y split' (sound_right u (p ∷ []) v split s)) i
 
-owned_product : (I : Inside) → Owned I factor → Owned I product
+owned_product : (I : Inside) → Owned I 6 factor → Owned I 5 product
 unfolding product
 owned_product I h =
-    owned_chain I (joins m.Star op.Mul) factor (λ v x a b r p q. two_of I m.Star op.Mul x v a b (own_two op.Mul a b (joined_star a b p q)) r) h
+    owned_chain I 5 (joins m.Star op.Mul) factor (λ v x a b k i j l r p q. two_of I 5 m.Star op.Mul x v a b k i j l (λ one. own_two op.Mul a b (joined_star a b one p q)) r) h
 
-two_summed : (I : Inside) → TwoOwned I summing
-two_summed I v x a b (inl r) p q =
-    two_of I m.Plus op.Add x v a b (own_two op.Add a b (joined_sum m.Plus op.Add a b (λ J u t. inl t) p q)) r
-two_summed I v x a b (inr r) p q =
-    two_of I m.Minus op.Sub x v a b (own_two op.Sub a b (joined_sum m.Minus op.Sub a b (λ J u t. inr t) p q)) r
+two_summed : (I : Inside) → TwoOwned I 4 4 5 summing
+two_summed I v x a b k i j l (inl r) p q =
+    two_of I 4 m.Plus op.Add x v a b k i j l (λ one. own_two op.Add a b (joined_sum m.Plus op.Add a b (λ u i' j' t. inl t) one p q)) r
+two_summed I v x a b k i j l (inr r) p q =
+    two_of I 4 m.Minus op.Sub x v a b k i j l (λ one. own_two op.Sub a b (joined_sum m.Minus op.Sub a b (λ u i' j' t. inr t) one p q)) r
 
-owned_sum : (I : Inside) → Owned I product → Owned I sum
+owned_sum : (I : Inside) → Owned I 5 product → Owned I 4 sum
 unfolding sum
-owned_sum I h = owned_chain I summing product (two_summed I) h
+owned_sum I h = owned_chain I 4 summing product (two_summed I) h
 
-two_compared : (I : Inside) → TwoOwned I comparing
+two_compared : (I : Inside) → TwoOwned I 3 4 4 comparing
 unfolding comparing
-two_compared I v x a b (inl r) p q =
-    two_of I m.Equal op.Eq x v a b (own_two op.Eq a b (joined_compared m.Equal op.Eq a b (λ J u t. inl t) p q)) r
-two_compared I v x a b (inr (inl r)) p q =
-    two_of I m.Unequal op.Ne x v a b (own_two op.Ne a b (joined_compared m.Unequal op.Ne a b (λ J u t. inr (inl t)) p q)) r
-two_compared I v x a b (inr (inr (inl r))) p q =
-    two_of I m.Below op.Lt x v a b (own_two op.Lt a b (joined_compared m.Below op.Lt a b (λ J u t. inr (inr (inl t))) p q)) r
-two_compared I v x a b (inr (inr (inr (inl r)))) p q =
-    two_of I m.AtMost op.Le x v a b (own_two op.Le a b (joined_compared m.AtMost op.Le a b (λ J u t. inr (inr (inr (inl t)))) p q)) r
-two_compared I v x a b (inr (inr (inr (inr (inl r))))) p q =
-    two_of I m.Above op.Gt x v a b (own_two op.Gt a b (joined_compared m.Above op.Gt a b (λ J u t. inr (inr (inr (inr (inl t))))) p q)) r
-two_compared I v x a b (inr (inr (inr (inr (inr r))))) p q =
-    two_of I m.AtLeast op.Ge x v a b (own_two op.Ge a b (joined_compared m.AtLeast op.Ge a b (λ J u t. inr (inr (inr (inr (inr t))))) p q)) r
+two_compared I v x a b k i j l (inl r) p q =
+    two_of I 3 m.Equal op.Eq x v a b k i j l (λ one. own_two op.Eq a b (joined_compared m.Equal op.Eq a b (λ u i' j' t. inl t) one p q)) r
+two_compared I v x a b k i j l (inr (inl r)) p q =
+    two_of I 3 m.Unequal op.Ne x v a b k i j l (λ one. own_two op.Ne a b (joined_compared m.Unequal op.Ne a b (λ u i' j' t. inr (inl t)) one p q)) r
+two_compared I v x a b k i j l (inr (inr (inl r))) p q =
+    two_of I 3 m.Below op.Lt x v a b k i j l (λ one. own_two op.Lt a b (joined_compared m.Below op.Lt a b (λ u i' j' t. inr (inr (inl t))) one p q)) r
+two_compared I v x a b k i j l (inr (inr (inr (inl r)))) p q =
+    two_of I 3 m.AtMost op.Le x v a b k i j l (λ one. own_two op.Le a b (joined_compared m.AtMost op.Le a b (λ u i' j' t. inr (inr (inr (inl t)))) one p q)) r
+two_compared I v x a b k i j l (inr (inr (inr (inr (inl r))))) p q =
+    two_of I 3 m.Above op.Gt x v a b k i j l (λ one. own_two op.Gt a b (joined_compared m.Above op.Gt a b (λ u i' j' t. inr (inr (inr (inr (inl t))))) one p q)) r
+two_compared I v x a b k i j l (inr (inr (inr (inr (inr r))))) p q =
+    two_of I 3 m.AtLeast op.Ge x v a b k i j l (λ one. own_two op.Ge a b (joined_compared m.AtLeast op.Ge a b (λ u i' j' t. inr (inr (inr (inr (inr t))))) one p q)) r
 
-owned_compared : (I : Inside) → Owned I sum → (u : List Placed) (a : Expr) (o : Option (Op × Expr)) → SoundTokens u → Own a → Matches I (optional (both comparing sum)) u o → Own (compared (a, o))
-owned_compared I h u a o s p (inl (c, (v, w, split, r, t), is)) =
-    subst (λ y. Own (compared (a, y))) (sym is) (two_compared I v c.0 a c.1 r p (h w c.1 (sound_right u v w split s) t))
-owned_compared I h u a o s p (inr (none, is)) = subst (λ y. Own (compared (a, y))) (sym is) p
+owned_compared : (I : Inside) → Owned I 4 sum → (u : List Placed) (a : Expr) (o : Option (Op × Expr)) (k n l : ℕ) → SoundTokens u → Sits I 4 a k n → Matched I (optional (both comparing sum)) u o n l → Sits I 3 (compared (a, o)) k l
+owned_compared I h u a o k n l s p (inl (c, (v, w, split, n', r, t), is)) =
+    subst (λ y. Sits I 3 (compared (a, y)) k l) (sym is) (two_compared I v c.0 a c.1 k n n' l r p (h w c.1 n' l (sound_right u v w split s) t))
+owned_compared I h u a o k n l s p (inr (none, is, same)) =
+    subst (λ y. Sits I 3 (compared (a, y)) k l) (sym is) (subst (λ i. Sits I 3 a k i) (sym same) (sits_down 4 3 a (omega arith) p))
 
-owned_compare : (I : Inside) → Owned I sum → Owned I compare
+owned_compare : (I : Inside) → Owned I 4 sum → Owned I 3 compare
 unfolding compare
-owned_compare I h u e s (c, (v, w, split, r, t), is) =
-    subst (λ x. Own x) (sym is) (owned_compared I h w c.0 c.1 (sound_right u v w split s) (h v c.0 (sound_left u v w split s) r) t)
+owned_compare I h u e k l s (c, (v, w, split, n, r, t), is) =
+    subst (λ x. Sits I 3 x k l) (sym is) (owned_compared I h w c.0 c.1 k n l (sound_right u v w split s) (h v c.0 k n (sound_left u v w split s) r) t)
 
-owned_test : (I : Inside) → Owned I compare → Owned I test
+owned_test : (I : Inside) → Owned I 3 compare → Owned I 2 test
 unfolding test
-owned_test I h u e s (inl (c, (v, w, split, r, t), is)) =
-    subst (λ x. Own x) (sym is) (own_not c.1 (h w c.1 (sound_right u v w split s) t))
-owned_test I h u e s (inr r) = h u e s r
+owned_test I h u e k l s (inl (c, (v, w, split, n, (one, step'), t), is)) =
+    subst (λ x. Sits I 2 x k l) (sym is) (own_not c.1 step' (h w c.1 n l (sound_right u v w split s) t))
+owned_test I h u e k l s (inr r) = sits_down 3 2 e (omega arith) (h u e k l s r)
 
-owned_conj : (I : Inside) → Owned I test → Owned I conj
+owned_conj : (I : Inside) → Owned I 2 test → Owned I 1 conj
 unfolding conj
 owned_conj I h =
-    owned_chain I (joins m.And op.And) test (λ v x a b r p q. two_of I m.And op.And x v a b (own_two op.And a b (joined_and a b p q)) r) h
+    owned_chain I 1 (joins m.And op.And) test (λ v x a b k i j l r p q. two_of I 1 m.And op.And x v a b k i j l (λ one. own_two op.And a b (joined_and a b one p q)) r) h
 
-owned_expression : (I : Inside) → Owned I conj → Owned I expression
+owned_expression : (I : Inside) → Owned I 1 conj → Owned I 0 expression
 unfolding expression
 owned_expression I h =
-    owned_chain I (joins m.Or op.Or) conj (λ v x a b r p q. two_of I m.Or op.Or x v a b (own_two op.Or a b (joined_or a b p q)) r) h
+    owned_chain I 0 (joins m.Or op.Or) conj (λ v x a b k i j l r p q. two_of I 0 m.Or op.Or x v a b k i j l (λ one. own_two op.Or a b (joined_or a b one p q)) r) h
 
 -- ---- numbers, texts and columns
 
@@ -618,51 +677,65 @@ dotted_alike : {A : Type 0} (f : Option (List ℕ) → List ℕ → A) (k : A �
 dotted_alike f k is (a, None) = is None a
 dotted_alike f k is (a, Some b) = is (Some a) b
 
-atom_printed : (I : Inside) (u : List Placed) (e : Expr) → SoundTokens u → Matches I atom u e → Printed atom (expr_pieces e) e
+-- an operator is one more
+joined_before : (I : Inside) (u : List Placed) (w : OneMark) (o x : Op) (k l : ℕ) → Matched I (joins w o) u x k l → Joins I k l
+joined_before I u w o x k l (c, (one, step'), is) = step'
+
+atom_printed : (I : Inside) (u : List Placed) (e : Expr) (k l : ℕ) → SoundTokens u → Matched I atom u e k l → Printed I atom (expr_pieces e) e k l
 unfolding atom
-atom_printed I u e s (inl (c, (v, w, split, r, t), is)) =
-    let one = (prints_natural {I = I}).prints w c.1 (sound_right u v w split s) t in
-    subst (λ x. Printed atom (expr_pieces x) x) (sym is) (printed_negative atom (joins m.Minus op.Sub) op.Sub expr.Number (printed_joins m.Minus op.Sub) (λ n J y z. inr (inl (n, z, refl))) (λ n J y z. inl ((op.Sub, n), z, refl)) c.1 one)
-atom_printed I u e s (inr r) =
+atom_printed I u e k l s (inl (c, (v, w, split, n, r, t), is)) =
+    let before = joined_before I v m.Minus op.Sub c.0 k n r in
+    let few : k ≤ n = omega (arith, before.1) in
+    let one = (prints_natural {I = I}).prints w c.1 n l (sound_right u v w split s) t in
+    subst (λ x. Printed I atom (expr_pieces x) x k l) (sym is) (printed_negative atom (joins m.Minus op.Sub) op.Sub expr.Number few (printed_joins m.Minus op.Sub before) (λ i y i' j' z. inr (inl (i, z, refl))) (λ i y i' j' z. inl ((op.Sub, i), z, refl)) c.1 one)
+atom_printed I u e k l s (inr r) =
     let others : Prints I (either (made a_number (λ n. expr.Number (pos n))) (either (made (terminal grammar.text) expr.Text) (made dotted (col_of expr.Column)))) expr_pieces = prints_either (prints_made prints_natural (λ v n t. refl)) (prints_either (prints_made prints_text (λ v t z. refl)) (prints_made prints_dotted (λ v c t. dotted_alike expr.Column expr_pieces (λ of a. refl) c))) in
-    printed_as (either (made a_number (λ n. expr.Number (pos n))) (either (made (terminal grammar.text) expr.Text) (made dotted (col_of expr.Column)))) atom (expr_pieces e) e e (λ J v t. inr t) (others.prints u e s r)
+    printed_as (either (made a_number (λ n. expr.Number (pos n))) (either (made (terminal grammar.text) expr.Text) (made dotted (col_of expr.Column)))) atom (expr_pieces e) e e (λ v i j t. inr t) (others.prints u e k l s r)
 
 column_level : (c : List ℕ × Option (List ℕ)) → level (col_of expr.Column c) ≡ 6
 column_level (a, None) = refl
 column_level (a, Some b) = refl
 
-atom_level : (I : Inside) (u : List Placed) (e : Expr) → Matches I atom u e → level e ≡ 6
+atom_level : (I : Inside) (u : List Placed) (e : Expr) → Plain I atom u e → level e ≡ 6
 unfolding atom
 atom_level I u e (inl (c, r, is)) = ap level is
 atom_level I u e (inr (inl (n, r, is))) = ap level is
 atom_level I u e (inr (inr (inl (t, r, is)))) = ap level is
 atom_level I u e (inr (inr (inr (c, r, is)))) = ap level is ∙ column_level c
 
-owned_atom : (I : Inside) → Owned I atom
+owned_atom : (I : Inside) → Owned I 6 atom
 unfolding factor
-owned_atom I u e s r =
-    let one : Printed factor (expr_pieces e) e = printed_as atom factor (expr_pieces e) e e (λ J v t. inl t) (atom_printed I u e s r) in
-    subst (λ l. Printed (grammar_at l) (expr_pieces e) e) (sym (atom_level I u e r)) one
+owned_atom I u e k l s r =
+    let one : Printed I factor (expr_pieces e) e k l = printed_as atom factor (expr_pieces e) e e (λ v i j t. inl t) (atom_printed I u e k l s r) in
+    let high : level e ≡ 6 = atom_level I u e (plain_match I atom u e k l r) in
+    bare_sits (omega arith) (subst (λ n. Printed I (grammar_at n) (expr_pieces e) e k l) (sym high) one)
 
-owned_sums : (I : Inside) → Inner I → Owned I sum
+owned_sums : (I : Inside) → Inner I → Owned I 4 sum
 owned_sums I inner = owned_sum I (owned_product I (owned_factor I inner (owned_atom I)))
 
-owned_all : (I : Inside) → Inner I → Owned I expression
+owned_all : (I : Inside) → Inner I → Owned I 0 expression
 owned_all I inner = owned_expression I (owned_conj I (owned_test I (owned_compare I (owned_sums I inner))))
 
-inner_within : (room : ℕ) → Inner (Within room)
-inner_within zero = record { owned = λ u e s w. absurd w }
-inner_within (suc room) = record { owned = λ u e s w. owned_all (Within room) (inner_within room) u e s w }
+inner_within : (b : Bounds) (falls : Falls b) (room : ℕ) → Inner (record { bounds = b; falls = falls; room = room })
+inner_within b falls zero = record { owned = λ u e k l s w. absurd w }
+inner_within b falls (suc room) =
+    record {
+      owned = λ u e k l s w. closed_sits room refl (own_of (owned_all (record { bounds = b; falls = falls; room = room }) (inner_within b falls room) u e k l s w));
+    }
 
 prints_whole : {I : Inside} → Inner I → Prints I whole expr_pieces
 unfolding whole
 prints_whole {I} inner =
-    record { prints = λ u e s r. printed_as expression (outermost expression) (expr_pieces e) e e (λ J v t. t) (plainly e (owned_all I inner u e s r)) }
+    record {
+      prints = λ u e k l s r. printed_outermost expression (expr_pieces e) e (plainly e (own_of (owned_all I inner u e 0 l s r)));
+    }
 
 -- a sum that is no part of another expression
 prints_sum : {I : Inside} → Inner I → Prints I (outermost sum) (enclosed_below 4)
 prints_sum {I} inner =
-    record { prints = λ u e s r. printed_as sum (outermost sum) (enclosed_below 4 e) e e (λ J v t. t) (operand_of 4 e (omega arith) (owned_sums I inner u e s r)) }
+    record {
+      prints = λ u e k l s r. printed_outermost sum (enclosed_below 4 e) e (operand_of 4 e (omega arith) (owned_sums I inner u e 0 l s r));
+    }
 
 -- ---- names, tables, streams, functions
 
@@ -817,36 +890,42 @@ prints_unique =
     prints_made (prints_behind m.Unique (prints_optional (λ o. written.on_pieces (or_none o)) prints_on refl (λ a. refl))) (λ u o r. refl)
 
 -- no time is printed as nothing
-no_after : Printed (optional (m.After ▸ a_number)) [] None
-no_after =
-    printed_as (empty None) (optional (m.After ▸ a_number)) [] None None (λ J v t. inr t) (printed_empty None)
+no_after : {I : Inside} {k l : ℕ} → l ≡ k → Printed I (optional (m.After ▸ a_number)) [] None k l
+no_after same =
+    printed_as (empty None) (optional (m.After ▸ a_number)) [] None None (λ v i j t. inr t) (printed_empty None same)
 
 -- a time behind `after`, where one is given
 abbrev after_given : Option ℕ → List Piece
 after_given None = []
 after_given (Some n) = piece.mark m.After ∷ piece.whole n ∷ []
 
-after_some : (I : Inside) (u : List Placed) (n : ℕ) → SoundTokens u → Matches I (optional (m.After ▸ a_number)) u (Some n) → Printed (optional (m.After ▸ a_number)) (piece.mark m.After ∷ piece.whole n ∷ []) (Some n)
-after_some I u n s r = (prints_optional {I = I} after_given (prints_behind m.After prints_number) refl (λ k. refl)).prints u (Some n) s r
+after_some : (I : Inside) (u : List Placed) (n k l : ℕ) → SoundTokens u → Matched I (optional (m.After ▸ a_number)) u (Some n) k l → Printed I (optional (m.After ▸ a_number)) (piece.mark m.After ∷ piece.whole n ∷ []) (Some n) k l
+after_some I u n k l s r =
+    (prints_optional {I = I} after_given (prints_behind m.After prints_number) refl (λ i. refl)).prints u (Some n) k l s r
+
+-- a time has no operator
+after_nothing : (I : Inside) (u : List Placed) (o : Option ℕ) (k l : ℕ) → SoundTokens u → Matched I (optional (m.After ▸ a_number)) u o k l → l ≡ k
+after_nothing I u o k l s (inl (n, (c, (v, w, split, i, (one, same), (two, same')), is), is')) = same' ∙ same
+after_nothing I u o k l s (inr (nil, is, same)) = same
 
 -- a time of 0 is printed as no time is
-after_printed : (I : Inside) (u : List Placed) (o : Option ℕ) → SoundTokens u → Matches I (optional (m.After ▸ a_number)) u o → (n : Option ℕ) × (after_of o ≡ after_of n) × Printed (optional (m.After ▸ a_number)) (written.after_pieces (after_of o)) n
-after_printed I u None s r = (None, refl, no_after)
-after_printed I u (Some zero) s r = (None, refl, no_after)
-after_printed I u (Some (suc n)) s r = (Some (suc n), refl, after_some I u (suc n) s r)
+after_printed : (I : Inside) (u : List Placed) (o : Option ℕ) (k l : ℕ) → SoundTokens u → Matched I (optional (m.After ▸ a_number)) u o k l → (n : Option ℕ) × (after_of o ≡ after_of n) × Printed I (optional (m.After ▸ a_number)) (written.after_pieces (after_of o)) n k l
+after_printed I u None k l s r = (None, refl, no_after (after_nothing I u None k l s r))
+after_printed I u (Some zero) k l s r = (None, refl, no_after (after_nothing I u (Some zero) k l s r))
+after_printed I u (Some (suc n)) k l s r = (Some (suc n), refl, after_some I u (suc n) k l s r)
 
 prints_unique_option : {I : Inside} → Prints I (optional unique) written.unique_pieces
 prints_unique_option = prints_optional written.unique_pieces prints_unique refl (λ a. refl)
 
-manner_printed : (I : Inside) (u : List Placed) (a : Manner) → SoundTokens u → Matches I manner u a → Printed manner (written.manner_pieces a) a
+manner_printed : (I : Inside) (u : List Placed) (a : Manner) (k l : ℕ) → SoundTokens u → Matched I manner u a k l → Printed I manner (written.manner_pieces a) a k l
 unfolding manner
-manner_printed I u a s (c, (v, w, split, r, t), is) =
-    let once = (prints_unique_option {I = I}).prints v c.0 (sound_left u v w split s) r in
-    let time = after_printed I w c.1 (sound_right u v w split s) t in
+manner_printed I u a k l s (c, (v, w, split, n', r, t), is) =
+    let once = (prints_unique_option {I = I}).prints v c.0 k n' (sound_left u v w split s) r in
+    let time = after_printed I w c.1 n' l (sound_right u v w split s) t in
     let all = printed_both (optional unique) (optional (m.After ▸ a_number)) (written.unique_pieces c.0) (written.after_pieces (after_of c.1)) (c.0, time.0) once time.2 in
-    let one : Printed manner (written.unique_pieces c.0 ++ written.after_pieces (after_of c.1)) (record { unique = c.0; after = after_of time.0 }) = printed_as (both (optional unique) (optional (m.After ▸ a_number))) manner (written.unique_pieces c.0 ++ written.after_pieces (after_of c.1)) (c.0, time.0) (record { unique = c.0; after = after_of time.0 }) (λ J x y. ((c.0, time.0), y, refl)) all in
-    let here : Printed manner (written.unique_pieces c.0 ++ written.after_pieces (after_of c.1)) (record { unique = c.0; after = after_of c.1 }) = subst (λ n. Printed manner (written.unique_pieces c.0 ++ written.after_pieces (after_of c.1)) (record { unique = c.0; after = n })) (sym time.1) one in
-    subst (λ x. Printed manner (written.manner_pieces x) x) (sym is) here
+    let one : Printed I manner (written.unique_pieces c.0 ++ written.after_pieces (after_of c.1)) (record { unique = c.0; after = after_of time.0 }) k l = printed_as (both (optional unique) (optional (m.After ▸ a_number))) manner (written.unique_pieces c.0 ++ written.after_pieces (after_of c.1)) (c.0, time.0) (record { unique = c.0; after = after_of time.0 }) (λ x i j y. ((c.0, time.0), y, refl)) all in
+    let here : Printed I manner (written.unique_pieces c.0 ++ written.after_pieces (after_of c.1)) (record { unique = c.0; after = after_of c.1 }) k l = subst (λ n. Printed I manner (written.unique_pieces c.0 ++ written.after_pieces (after_of c.1)) (record { unique = c.0; after = n }) k l) (sym time.1) one in
+    subst (λ x. Printed I manner (written.manner_pieces x) x k l) (sym is) here
 
 prints_manner : {I : Inside} → Prints I manner written.manner_pieces
 prints_manner {I} = record { prints = manner_printed I }
@@ -877,16 +956,22 @@ prints_maintain =
 
 -- ---- deeds
 
-value_printed : (I : Inside) (u : List Placed) (a : Value) → SoundTokens u → Matches I a_value u a → Printed a_value (written.value_pieces a) a
+-- nor has a keyword or a symbol
+key_before : (I : Inside) (u : List Placed) (w : OneMark) (k l : ℕ) → Matched I (key w) u tt k l → l ≡ k
+key_before I u w k l (one, same) = same
+
+value_printed : (I : Inside) (u : List Placed) (a : Value) (k l : ℕ) → SoundTokens u → Matched I a_value u a k l → Printed I a_value (written.value_pieces a) a k l
 unfolding a_value
-value_printed I u a s (inl (n, (c, (v, w, split, r, t), is'), is)) =
-    let one = (prints_natural {I = I}).prints w c.1 (sound_right u v w split s) t in
-    let here = printed_negative a_value (key m.Minus) tt value.Int (printed_key m.Minus) (λ k J y z. inr (inl (k, z, refl))) (λ k J y z. inl (k, ((tt, k), z, refl), refl)) c.1 one in
-    let same : a ≡ value.Int (neg_ℤ (pos c.1)) = is ∙ ap (λ k. value.Int (neg_ℤ (pos k))) is' in
-    subst (λ x. Printed a_value (written.value_pieces x) x) (sym same) here
-value_printed I u a s (inr r) =
+value_printed I u a k l s (inl (n, (c, (v, w, split, n', r, t), is'), is)) =
+    let before = key_before I v m.Minus k n' r in
+    let few : k ≤ n' = omega (arith, before) in
+    let one = (prints_natural {I = I}).prints w c.1 n' l (sound_right u v w split s) t in
+    let here = printed_negative a_value (key m.Minus) tt value.Int few (printed_key m.Minus before) (λ i y i' j' z. inr (inl (i, z, refl))) (λ i y i' j' z. inl (i, ((tt, i), z, refl), refl)) c.1 one in
+    let same : a ≡ value.Int (neg_ℤ (pos c.1)) = is ∙ ap (λ i. value.Int (neg_ℤ (pos i))) is' in
+    subst (λ x. Printed I a_value (written.value_pieces x) x k l) (sym same) here
+value_printed I u a k l s (inr r) =
     let others : Prints I (either (made a_number (λ n. value.Int (pos n))) (made (terminal grammar.text) value.Text)) written.value_pieces = prints_either (prints_made prints_natural (λ v n t. refl)) (prints_made prints_text (λ v t z. refl)) in
-    printed_as (either (made a_number (λ n. value.Int (pos n))) (made (terminal grammar.text) value.Text)) a_value (written.value_pieces a) a a (λ J v t. inr t) (others.prints u a s r)
+    printed_as (either (made a_number (λ n. value.Int (pos n))) (made (terminal grammar.text) value.Text)) a_value (written.value_pieces a) a a (λ v i j t. inr t) (others.prints u a k l s r)
 
 prints_value : {I : Inside} → Prints I a_value written.value_pieces
 prints_value {I} = record { prints = value_printed I }
@@ -931,7 +1016,7 @@ abbrev shown_pieces : Deed → List Piece
 shown_pieces (deed_.Show a) = piece.name a ∷ []
 shown_pieces d = piece.mark m.Pending ∷ []
 
-shown_alike : (I : Inside) (u : List Placed) (d : Deed) → Matches I (m.Show ▸ either (stands m.Pending deed_.ShowPending) (made a_name deed_.Show)) u d → written.deed_pieces d ≡ piece.mark m.Show ∷ shown_pieces d
+shown_alike : (I : Inside) (u : List Placed) (d : Deed) → Plain I (m.Show ▸ either (stands m.Pending deed_.ShowPending) (made a_name deed_.Show)) u d → written.deed_pieces d ≡ piece.mark m.Show ∷ shown_pieces d
 shown_alike I u d (c, (v, w, split, one, inl (x, r, same)), is) =
     ap written.deed_pieces (is ∙ same) ∙ ap (λ y. piece.mark m.Show ∷ shown_pieces y) (sym (is ∙ same))
 shown_alike I u d (c, (v, w, split, one, inr (a, r, same)), is) =
@@ -957,8 +1042,10 @@ unfolding statement
 prints_statement inner =
     prints_either prints_table (prints_either prints_stream (prints_either (prints_derive inner) (prints_either prints_function (prints_either (prints_rule inner) (prints_either prints_maintain (prints_either (prints_stands m.Ready st.Ready refl) (prints_either (prints_made (prints_behind m.At prints_number) (λ u n r. refl)) (prints_called inner))))))))
 
--- what a statement of sound tokens is printed as is sound, and its tokens are a statement with the same tree
-pub printed_again : (u : List Placed) (s : Statement) → SoundTokens u → IsStatement u s → SoundPieces (statement_pieces s) × ((ts : List Placed) → bare ts ≡ pieces_tokens (statement_pieces s) → IsStatement ts s)
-printed_again u s sound (room, r) =
-    let p = (prints_statement {I = Within room} (inner_within room)).prints u s sound r in
-    (p.sound, p.again)
+-- what a statement of sound tokens is printed as is sound, and its tokens are a statement with the same tree, within
+-- the same bounds
+pub printed_again : (b : Bounds) → Falls b → (room : ℕ) (u : List Placed) (s : Statement) (l : ℕ) → SoundTokens u → Counted b (CountedWithin b room) statement u s 0 l → SoundPieces (statement_pieces s) × ((ts : List Placed) → bare ts ≡ pieces_tokens (statement_pieces s) → (j : ℕ) × Counted b (CountedWithin b room) statement ts s 0 j)
+printed_again b falls room u s l sound r =
+    let inner = inner_within b falls room in
+    let p = (prints_statement inner).prints u s 0 l sound r in
+    (p.sound, λ ts is. let t = p.again ts is 0 (omega arith) in (t.0, t.2))

@@ -1,5 +1,5 @@
 ghost use Rattle.strip_parse.specs.Exactness.{ReadsRightly, ReadsAll};
-ghost use Rattle.strip_parse.specs.Printing.{PrintsItself};
+ghost use Rattle.strip_parse.specs.Printing.{PrintsItself, PrintsWithin};
 
 /// What `parse` reads is exactly what is in the grammar. Nothing runs here: the clauses are the laws.
 ///
@@ -13,8 +13,13 @@ pub fn reads_exactly()
     ensures all { ReadsAll }
 {}
 
-/// What `print` writes of a statement is a statement with the same tree, whatever text the tree came from. Nothing
-/// runs here: the clause is the law.
+/// What `print` writes of a statement is a statement with the same tree. Nothing runs here: the clauses are the laws.
+///
+/// - `tree`: whatever bytes are a statement of the grammar, which has no limits, what its tree is printed as is a
+///   statement with the same tree.
+/// - `within`: what is printed of a statement that `parsed` reads within the limits is read within them too, as the
+///   same tree.
 pub fn prints_itself()
-    ensures { PrintsItself }
+    ensures tree { PrintsItself }
+    ensures within { PrintsWithin }
 {}

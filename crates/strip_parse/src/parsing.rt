@@ -1,7 +1,8 @@
-ghost use Rattle.std.specs.Prelude.{◌≡◌};
+ghost use Rattle.std.specs.Prelude.{◌≡◌, IfOk};
 ghost use Rattle.strip_parse.specs.Parsed.{IsParsed, IsWhole, parsed, reading, answer_of, fault_of, halt_at};
 ghost use Rattle.strip_ast.specs.Syntax.{statement};
 ghost use Rattle.strip_parse.specs.Reading.{part, at_end};
+ghost use Rattle.strip_parse.specs.Printing.{IsTextOf};
 
 use crate::cursor::Cursor;
 use crate::statements::take_statement;
@@ -54,9 +55,13 @@ fn parse_tokens(alloc: Global, tokens: &[Placed], len: usize) -> Result<Statemen
 
 /// The tree of a statement of the grammar, or the one fault of the bytes. First all tokens are cut; then
 /// they are read from the left.
+///
+/// - `exact`: the answer is what `parsed` says of the bytes.
+/// - `grammar`: where a tree is answered, the bytes are a statement of the grammar with this tree.
 #[tactic(auto, unfolding(crate::specs::Parsed::parsed))]
 pub fn parse(alloc: Global, bytes: &[u8]) -> Result<Statement, ParseFail>
-    ensures { IsParsed (parsed bytes.now) result }
+    ensures exact { IsParsed (parsed bytes.now) result }
+    ensures grammar { IfOk result (λ s. IsTextOf bytes.now s) }
 {
     match tokens(alloc, bytes) {
         Ok(found) => parse_tokens(alloc, found.as_slice(), bytes.len()),
