@@ -214,7 +214,7 @@ module _ (def : TableDef) where
           ap (λ b. one_more b row (sums_at def rows key)) h ∙ rest (sym (past_first def.key row rows key h) ∙ e)
 
 -- bounds: so many rows of totals under a bound have sums of at most so many times the bound
-up_to_plus : (m n : ℕ) (one two : List ℤ) → AllByRecursion (IsUpTo m) one → AllByRecursion (IsUpTo n) two → AllByRecursion (IsUpTo (m + n)) (plus one two)
+pub up_to_plus : (m n : ℕ) (one two : List ℤ) → AllByRecursion (IsUpTo m) one → AllByRecursion (IsUpTo n) two → AllByRecursion (IsUpTo (m + n)) (plus one two)
 up_to_plus m n [] two first second = all_weaker (IsUpTo n) (IsUpTo (m + n)) (λ x up. (omega (arith, ints, up.0), omega (arith, ints, up.1))) two second
 up_to_plus m n (a ∷ one) [] first second = all_weaker (IsUpTo m) (IsUpTo (m + n)) (λ x up. (omega (arith, ints, up.0), omega (arith, ints, up.1))) (a ∷ one) first
 up_to_plus m n (a ∷ one) (b ∷ two) first second =
@@ -222,7 +222,7 @@ up_to_plus m n (a ∷ one) (b ∷ two) first second =
     let b_up = second.0 in
     ((omega (arith, ints), omega (arith, ints)), up_to_plus m n one two first.1 second.1)
 
-up_to_zeros : (n : ℕ) → AllByRecursion (IsUpTo 0) (replicate n (pos 0))
+pub up_to_zeros : (n : ℕ) → AllByRecursion (IsUpTo 0) (replicate n (pos 0))
 up_to_zeros zero = tt
 up_to_zeros (suc n) = ((omega (arith, ints), omega (arith, ints)), up_to_zeros n)
 

@@ -198,7 +198,7 @@ module _ (defs : List TableDef) (functions : List Function) (rules : List Rule) 
 -- ---- how great the totals are
 
 -- what is so of a row and of each of others is so of each where it is put
-all_placed : (P : List Value → Type 0) (columns : List ℕ) (row : List Value) (rows : List (List Value)) → P row → AllByRecursion P rows → AllByRecursion P (placed columns row rows)
+pub all_placed : (P : List Value → Type 0) (columns : List ℕ) (row : List Value) (rows : List (List Value)) → P row → AllByRecursion P rows → AllByRecursion P (placed columns row rows)
 all_placed P columns row [] here others = (here, tt)
 all_placed P columns row (first ∷ rows) here others = by_order (row_cmp (key_of columns row) (key_of columns first)) (all_placed P columns row rows here others.1)
   where
@@ -208,7 +208,7 @@ all_placed P columns row (first ∷ rows) here others = by_order (row_cmp (key_o
     by_order Greater rest = (others.0, rest)
 
 -- what is so of the row of sums of each key is so of each row
-all_sums : (def : TableDef) (P : List Value → Type 0) (all rows : List (List Value)) → ((row : List Value) → P (row_of (key_of def.key row) (sums_at def all (key_of def.key row)))) → AllByRecursion P (keys_with_sums def all rows)
+pub all_sums : (def : TableDef) (P : List Value → Type 0) (all rows : List (List Value)) → ((row : List Value) → P (row_of (key_of def.key row) (sums_at def all (key_of def.key row)))) → AllByRecursion P (keys_with_sums def all rows)
 all_sums def P all [] each = tt
 all_sums def P all (row ∷ rows) each =
     let sum = row_of (key_of def.key row) (sums_at def all (key_of def.key row)) in

@@ -1,1 +1,3 @@
 pub mod HistoryLaws
+pub mod Courses
+pub mod JobsStay

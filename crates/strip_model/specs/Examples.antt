@@ -1,6 +1,7 @@
 -- Small histories on which the definitions compute.
 use Rattle.std.specs.Prelude.{◌≡◌, List, [], ◌∷◌, Some, None, codes, pos, false, refl}
 use Rattle.std.specs.Fmt.{digits}
+use Rattle.strip_value.specs.declared.actions.KeyOf.TheVariants.{Plain, Unique}
 use Rattle.strip_value.specs.declared.acts.Act.TheVariants.{Put}
 use Rattle.strip_value.specs.declared.acts.ActError.TheVariants.{Full}
 use Rattle.strip_value.specs.declared.acts.Reply.TheVariants.{Rows, Count, Refused}
@@ -16,7 +17,7 @@ use Rattle.strip_model.specs.History.{base, live, begins}
 use Rattle.strip_model.specs.Derived.{Fixed, beginning}
 use Rattle.strip_model.specs.Legal.{reply_of}
 use Rattle.strip_model.specs.Says.{says, to_begin, opened}
-use Rattle.strip_model.specs.Texts.{line_of_reply}
+use Rattle.strip_model.specs.Texts.{line_of_reply, line_of_job, line_of_empty}
 
 -- a table of numbers that takes one row
 abbrev narrow : TableDef
@@ -75,3 +76,15 @@ full_text = refl
 pub rows_of_two : line_of_reply (narrow ∷ []) (Rows (one ∷ two ∷ [])) ≡ codes "rows 2\n(1)\n(2)\n"
 unfolding line_of_reply tuple_text digits
 rows_of_two = refl
+
+pub job_line : line_of_job (codes "f") 7 (Unique one 5) 200 4 ≡ codes "job 7 f (1) due 200 rows 4\n"
+unfolding line_of_job tuple_text digits
+job_line = refl
+
+pub plain_line : line_of_job (codes "keep_d") 2 (Plain 3 1) 0 2 ≡ codes "job 2 keep_d plain due 0 rows 2\n"
+unfolding line_of_job digits
+plain_line = refl
+
+pub empty_line : line_of_empty ≡ codes "empty\n"
+unfolding line_of_empty
+empty_line = refl

@@ -1,8 +1,10 @@
 pub mod Kept
 pub mod History
 pub mod Derived
+pub mod Counted
 pub mod Legal
 pub mod Says
+pub mod Running
 pub mod Texts
 pub mod Examples
 pub mod RuleExamples

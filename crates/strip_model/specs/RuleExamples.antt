@@ -1,8 +1,7 @@
 -- A run with a table that a rule keeps: what the engine says to each call, one after another.
-use Rattle.std.specs.Prelude.{◌≡◌, ℕ, ◌+◌, pos, negsuc, List, [], ◌∷◌, Option, Some, None, refl}
+use Rattle.std.specs.Prelude.{◌≡◌, ℕ, pos, List, [], ◌∷◌, Option, Some, None, refl}
 use Rattle.strip_value.specs.declared.actions.ActionId.{ActionId}
 use Rattle.strip_value.specs.declared.actions.Content.TheVariants.{Totals}
-use Rattle.strip_value.specs.declared.acts.Act.{Act}
 use Rattle.strip_value.specs.declared.acts.Act.TheVariants.{Put, Show}
 use Rattle.strip_value.specs.declared.acts.ActError.TheVariants.{Derived}
 use Rattle.strip_value.specs.declared.acts.Reply.TheVariants.{Rows, Count, Refused}

@@ -1,6 +1,5 @@
 -- What the engine answers to a call after a history, and the entry that it adds, if any.
 use Rattle.std.specs.Prelude.{ℕ, zero, suc, ◌+◌, ◌^◌, min, max, Bool, not, ◌&&◌, ◌==◌, if◌then◌else◌, nat_lt, List, [], ◌∷◌, ◌++◌, length, find, get_or, Option, Some, None}
-use Rattle.std.specs.List.{flat_map}
 use Rattle.strip_value.specs.declared.actions.ActionId.{ActionId}
 use Rattle.strip_value.specs.declared.actions.Content.{Content}
 use Rattle.strip_value.specs.declared.actions.FiredRule.{FiredRule}

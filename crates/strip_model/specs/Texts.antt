@@ -10,7 +10,6 @@ use Rattle.strip_value.specs.declared.acts.Reply.TheVariants.{Rows, Count, Refus
 use Rattle.strip_value.specs.declared.tables.TableDef.{TableDef}
 use Rattle.strip_value.specs.declared.values.Value.{Value}
 use Rattle.strip_value.specs.Print.{tuple_text}
-use Rattle.strip_model.specs.Says.{Task}
 
 -- a number in decimal
 abbrev pub number_field : ℤ → List ℕ
@@ -77,6 +76,18 @@ key_text (Plain place rule) = codes "plain"
 key_text (Unique values starts) = tuple_text values
 
 -- a job that was started: its number, its function and its key, when it was due, and how many bound rows it has
-unfoldable pub line_of_job : List ℕ → Task → List ℕ
-line_of_job function task =
-    line (codes "job " ++ number_field (pos task.number) ++ codes " " ++ function ++ codes " " ++ key_text task.action.key ++ codes " due " ++ number_field (pos task.due) ++ codes " rows " ++ number_field (pos task.rows))
+unfoldable pub line_of_job : List ℕ → ℕ → KeyOf → ℕ → ℕ → List ℕ
+line_of_job function number key due rows =
+    line (codes "job " ++ number_field (pos number) ++ codes " " ++ function ++ codes " " ++ key_text key ++ codes " due " ++ number_field (pos due) ++ codes " rows " ++ number_field (pos rows))
+
+-- all pending actions are due later, the first at this moment
+unfoldable pub line_of_not_due : ℕ → List ℕ
+line_of_not_due next = number_line (codes "not due ") next
+
+-- each action that is due has a running twin, that of the first being this number
+unfoldable pub line_of_in_hand : ℕ → List ℕ
+line_of_in_hand number = number_line (codes "in hand ") number
+
+-- no action is pending
+unfoldable pub line_of_empty : List ℕ
+line_of_empty = line (codes "empty")

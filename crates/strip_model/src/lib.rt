@@ -4,6 +4,7 @@
 
 mod entries;
 mod history;
+pub mod laws;
 #[cfg(test)]
 mod tests;
 mod texts;
@@ -11,4 +12,7 @@ mod texts;
 pub use entries::Entry;
 pub use history::History;
 pub use strip_value::{Act, ActError, Bytes, Duplicate, Holds, Id, Ids, Reply, Row, TableDef};
-pub use texts::{finished_text, not_running_text, refusal_text, reply_text, spent_text};
+pub use texts::{
+    empty_text, finished_text, in_hand_text, job_text, not_due_text, not_running_text,
+    refusal_text, reply_text, spent_text,
+};

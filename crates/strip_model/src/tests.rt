@@ -1,9 +1,12 @@
-use crate::{ActError, Entry, History, Id, Reply, Row, TableDef, refusal_text, reply_text};
+use crate::{
+    ActError, Entry, History, Id, Reply, Row, TableDef, empty_text, finished_text, in_hand_text,
+    job_text, not_due_text, not_running_text, refusal_text, reply_text, spent_text,
+};
 use std::alloc::Global;
 use std::process::Abort;
 use std::str;
 use std::test::Fail;
-use strip_value::{Items, Name, Text, Value};
+use strip_value::{Items, KeyOf, Name, Text, Value};
 
 fn def(alloc: Global, name: &[u8]) -> Result<TableDef, Fail> {
     Ok(TableDef {
@@ -120,6 +123,72 @@ fn causes_are_printed(rt: HostRuntime) -> Result<(), Fail> {
         },
         "Full  1",
     )?;
+    Ok(())
+}
+
+#[test]
+fn jobs_are_printed(rt: HostRuntime) -> Result<(), Fail> {
+    let alloc = rt.alloc();
+    let plain = KeyOf::Plain { place: 3, rule: 1 };
+    let text = Text::of(alloc, b"C1")?;
+    let named = KeyOf::Unique {
+        values: Row::of(vec![in alloc; Value::Text(text)]?),
+        starts: 5,
+    };
+    let of_all = KeyOf::Unique {
+        values: Row::of(Vec::new(alloc)),
+        starts: 0,
+    };
+    let cases: [(u64, &[u8], &KeyOf, u64, u64, &str); 4] = [
+        (
+            2,
+            b"keep_d",
+            &plain,
+            0,
+            2,
+            "job 2 keep_d plain due 0 rows 2\n",
+        ),
+        (7, b"f", &named, 200, 4, "job 7 f ('C1') due 200 rows 4\n"),
+        (7, b"f", &of_all, 0, 1, "job 7 f () due 0 rows 1\n"),
+        (
+            u64::MAX,
+            b"f",
+            &plain,
+            9_223_372_036_854_775_808,
+            u64::MAX - 1,
+            "job 18446744073709551615 f plain due 9223372036854775808 rows 18446744073709551614\n",
+        ),
+    ];
+    for (number, function, key, due, rows, wanted) in cases {
+        let text = job_text(alloc, function, number, key, due, rows)?;
+        assert_eq!(rt; str::from_utf8(text.as_slice())?, wanted);
+    }
+    Ok(())
+}
+
+#[test]
+fn answers_are_printed(rt: HostRuntime) -> Result<(), Fail> {
+    let alloc = rt.alloc();
+    let not_due = not_due_text(alloc, 200)?;
+    let in_hand = in_hand_text(alloc, 2)?;
+    let empty = empty_text(alloc)?;
+    let spent = spent_text(alloc, 11)?;
+    let not_running = not_running_text(alloc, u128::MAX)?;
+    let finished = finished_text(alloc, 1)?;
+    let cases: [(&[u8], &str); 6] = [
+        (not_due.as_slice(), "not due 200\n"),
+        (in_hand.as_slice(), "in hand 2\n"),
+        (empty.as_slice(), "empty\n"),
+        (spent.as_slice(), "refused Spent 11\n"),
+        (
+            not_running.as_slice(),
+            "refused NotRunning 340282366920938463463374607431768211455\n",
+        ),
+        (finished.as_slice(), "finished 1\n"),
+    ];
+    for (text, wanted) in cases {
+        assert_eq!(rt; str::from_utf8(text)?, wanted);
+    }
     Ok(())
 }
 

@@ -1,9 +1,9 @@
 ghost use Rattle.std.specs.Prelude.{◌≡◌, ◌++◌, ◌<◌, length, IfOk, OnOk};
-ghost use Rattle.strip_model.specs.Texts.{line_of_reply, line_of_spent, line_of_not_running, line_of_finished, number_line, cause_text, rows_text, row_lines, table_name, number_field};
+ghost use Rattle.strip_model.specs.Texts.{line_of_reply, line_of_spent, line_of_not_running, line_of_finished, line_of_job, line_of_not_due, line_of_in_hand, line_of_empty, key_text, number_line, cause_text, rows_text, row_lines, table_name, number_field};
 
 use itoa::Buffer;
 use std::alloc::{AllocError, Global};
-use strip_value::{ActError, Id, Reply, Row, TableDef};
+use strip_value::{ActError, Id, KeyOf, Reply, Row, TableDef};
 
 /// The text of a reply: its line, and for rows a line each. Names of tables are those of the definitions.
 #[tactic(auto, unfolding(crate::specs::Texts::line_of_reply))]
@@ -140,4 +140,65 @@ pub fn finished_text(alloc: Global, number: u64) -> Result<Vec<u8>, AllocError>
     ensures { IfOk result (λ text. text.items ≡ line_of_finished number) }
 {
     number_text(alloc, b"finished ", number as u128)
+}
+
+/// The reply to a start that took an action: its number, the name of its function and its key, when it
+/// was due, and how many bound rows it has.
+#[tactic(auto, unfolding(crate::specs::Texts::line_of_job))]
+pub fn job_text(
+    alloc: Global,
+    function: &[u8],
+    number: u64,
+    key: &KeyOf,
+    due: u64,
+    rows: u64,
+) -> Result<Vec<u8>, AllocError>
+    ensures { IfOk result (λ text. text.items ≡ line_of_job function.now number key.now due rows) }
+{
+    let mut text = Vec::from_slice(alloc, b"job ")?;
+    push_number(number as i128, &mut text)?;
+    text.push(b' ')?;
+    text.extend_from_slice(function)?;
+    text.push(b' ')?;
+    push_key(alloc, key, &mut text)?;
+    text.extend_from_slice(b" due ")?;
+    push_number(due as i128, &mut text)?;
+    text.extend_from_slice(b" rows ")?;
+    push_number(rows as i128, &mut text)?;
+    text.push(b'\n')?;
+    Ok(text)
+}
+
+fn push_key(alloc: Global, key: &KeyOf, text: &mut Vec<u8>) -> Result<(), AllocError>
+    ensures { OnOk result (text.new.items ≡ text.old.items ++ key_text key.now) }
+{
+    match key {
+        KeyOf::Plain { .. } => text.extend_from_slice(b"plain"),
+        KeyOf::Unique { values, .. } => values.text(alloc, text),
+    }
+}
+
+/// The reply to a start where all pending actions are due later, the first at `next`.
+#[tactic(auto, unfolding(crate::specs::Texts::line_of_not_due))]
+pub fn not_due_text(alloc: Global, next: u64) -> Result<Vec<u8>, AllocError>
+    ensures { IfOk result (λ text. text.items ≡ line_of_not_due next) }
+{
+    number_text(alloc, b"not due ", next as u128)
+}
+
+/// The reply to a start where each action that is due has a running twin, the first one's being this
+/// number.
+#[tactic(auto, unfolding(crate::specs::Texts::line_of_in_hand))]
+pub fn in_hand_text(alloc: Global, number: u64) -> Result<Vec<u8>, AllocError>
+    ensures { IfOk result (λ text. text.items ≡ line_of_in_hand number) }
+{
+    number_text(alloc, b"in hand ", number as u128)
+}
+
+/// The reply to a start where no action is pending.
+#[tactic(auto, unfolding(crate::specs::Texts::line_of_empty))]
+pub fn empty_text(alloc: Global) -> Result<Vec<u8>, AllocError>
+    ensures { IfOk result (λ text. text.items ≡ line_of_empty) }
+{
+    Vec::from_slice(alloc, b"empty\n")
 }
