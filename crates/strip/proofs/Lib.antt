@@ -2,3 +2,4 @@ pub mod PlainLaws
 pub mod BaseLaws
 pub mod RunState
 pub mod StatusLaws
+pub mod TableLaws

@@ -61,6 +61,7 @@ fn accept(alloc: Global, stage: Stage) -> Result<Answer, AllocError>
 }
 
 /// An engine over the one table.
+#[tactic(auto, using(crate::proofs::TableLaws::tables_one))]
 fn open(alloc: Global, limits: Limits, def: TableDef) -> Result<Engine, AllocError>
     requires base { IsBase def }
     requires bound { limits.bound_rows ≤ 2 ^ 60 }

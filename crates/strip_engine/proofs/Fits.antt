@@ -1,11 +1,11 @@
--- A row that no cause keeps out of a base table has its columns' kinds.
-use Rattle.std.proofs.Common.{◌≡◌, ℕ, ◌+◌, ◌^◌, ◌<◌, Bool, true, false, not, ◌&&◌, cond, List, [], ◌∷◌, length, get_or, Option, Some, None, ℤ, pos, neg_ℤ, ◌≤ℤ◌, ◌<ℤ◌, refl, ap, ◌∙◌, subst, arith, rules, tests}
+-- A row that no cause keeps out of a table has its columns' kinds.
+use Rattle.std.proofs.Common.{◌≡◌, ℕ, ◌+◌, ◌^◌, ◌<◌, ◌≤◌, Bool, true, false, not, ◌&&◌, cond, List, [], ◌∷◌, length, get_or, Option, Some, None, is_some, ℤ, pos, neg_ℤ, ◌≤ℤ◌, ◌<ℤ◌, inl, inr, refl, ap, sym, ◌∙◌, subst, arith, rules, tests}
 use Rattle.std.specs.Prelude.{int_le, int_lt}
 use Rattle.std.specs.List.{AllByRecursion}
 use Rattle.std.proofs.Math.ListN.{get_or-map}
 use Rattle.std.proofs.lemmas.List.{get_or_default, length-map}
 use Rattle.strip_value.specs.declared.acts.ActError.{ActError}
-use Rattle.strip_value.specs.declared.acts.ActError.TheVariants.{KindMismatch, OutOfRange}
+use Rattle.strip_value.specs.declared.acts.ActError.TheVariants.{Derived, KindMismatch, OutOfRange}
 use Rattle.strip_value.specs.declared.kinds.Kind.{Kind}
 use Rattle.strip_value.specs.declared.kinds.Kind.TheVariants as kind
 use Rattle.strip_value.specs.declared.tables.ColumnDef.{ColumnDef}
@@ -15,10 +15,12 @@ use Rattle.strip_value.specs.declared.values.Value.TheVariants.{Int, Text}
 use Rattle.strip_value.specs.Kinds.{Fits, FitsColumns}
 use Rattle.strip_value.specs.Table.{Keyed}
 use Rattle.strip_value.proofs.Lists.{all_at}
-use Rattle.strip_meaning.specs.Effect.{is_alike, outside_at, kind_mismatch, out_of_range, misfit, or_cause, table_at, no_table}
-use Rattle.strip_engine.specs.Setup.{is_plain, IsBase, AreBase}
+use Rattle.strip_meaning.specs.Effect.{is_alike, outside_at, kind_mismatch, out_of_range, misfit, derived, or_cause, table_at, no_table}
+use Rattle.strip_value.specs.declared.queries.Query.{Query}
+use Rattle.strip_meaning.specs.Contents.{def_at}
+use Rattle.strip_engine.specs.Keepers.{first_def}
+use Rattle.strip_engine.specs.Setup.{is_plain, IsBase, IsTableOf, AreTables}
 use Rattle.strip_engine.specs.Steps.{defs_of}
-use Rattle.strip_engine.specs.Undo.{def_at}
 
 -- of two causes that aren't there neither is
 pub neither : (a b : Option ActError) → or_cause a b ≡ None → (a ≡ None) × (b ≡ None)
@@ -61,9 +63,26 @@ fits_base def row base none =
 pub def_of_table : (tables : List Keyed) (id : ℕ) → def_at (defs_of tables) id ≡ (table_at tables id).def
 def_of_table tables id = get_or-map (λ table. table.def) tables id no_table
 
-pub base_at : (tables : List Keyed) (id : ℕ) → AreBase (defs_of tables) → id < length tables → IsBase (table_at tables id).def
-base_at tables id base lt =
-    subst IsBase (def_of_table tables id) (all_at IsBase (defs_of tables) id no_table.def base.each (omega (arith, length-map tables (λ (table : Keyed). table.def))))
+-- a table among the tables is a base table or a derived one
+pub one_of : (tables : List Keyed) (id : ℕ) → AreTables (defs_of tables) → id < length tables → IsTableOf (defs_of tables) (table_at tables id).def
+one_of tables id are lt =
+    subst (IsTableOf (defs_of tables)) (def_of_table tables id) (all_at (IsTableOf (defs_of tables)) (defs_of tables) id no_table.def are.each (omega (arith, length-map tables (λ (table : Keyed). table.def))))
+
+-- either has few columns
+pub narrow : (defs : List TableDef) (def : TableDef) → IsTableOf defs def → length def.columns ≤ 16
+narrow defs def (inl base) = base.narrow
+narrow defs def (inr first) = subst (λ (d : TableDef). length d.columns ≤ 16) (sym first.is) (omega arith)
+
+no_query : (q : Option Query) (id : ℕ) → cond (is_some q) (Some (Derived id)) None ≡ None → q ≡ None
+no_query None id e = refl
+no_query (Some q) id e = cc
+
+-- a table that isn't derived is a base table
+pub is_base : (defs : List TableDef) (def : TableDef) (id : ℕ) → IsTableOf defs def → derived def id ≡ None → IsBase def
+is_base defs def id (inl base) none = base
+is_base defs def id (inr first) none =
+    let bare : (first_def def.name first.form first.kind def.declared).query ≡ None = sym (ap (λ (d : TableDef). d.query) first.is) ∙ no_query def.query id none in
+    cc
 
 -- what indexing the tables gives
 pub table_read : (tables : List Keyed) (id at : ℕ) (table : Keyed) → id < length tables → at ≡ id → table ≡ get_or tables at table → table ≡ table_at tables id

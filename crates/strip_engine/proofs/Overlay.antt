@@ -1,5 +1,5 @@
 -- Derived tables beside base tables: what acts do to the base tables doesn't depend on the rows of derived ones.
-use Rattle.std.proofs.Common.{◌≡◌, ℕ, zero, suc, ◌+◌, Bool, true, false, cond, List, [], ◌∷◌, ◌++◌, map, get_or, set, Option, Some, None, is_some, refl, sym, ap, ◌∙◌, subst, arith}
+use Rattle.std.proofs.Common.{◌≡◌, ℕ, zero, suc, ◌+◌, Bool, true, false, cond, List, [], ◌∷◌, ◌++◌, map, set, Option, Some, None, is_some, refl, sym, ap, ◌∙◌, subst, arith}
 use Rattle.strip_value.specs.declared.acts.Act.{Act}
 use Rattle.strip_value.specs.declared.acts.Act.TheVariants.{Put, Show}
 use Rattle.strip_value.specs.declared.acts.ActError.{ActError}
@@ -10,7 +10,7 @@ use Rattle.strip_value.specs.declared.queries.Query.{Query}
 use Rattle.strip_value.specs.declared.tables.TableDef.{TableDef}
 use Rattle.strip_value.specs.declared.values.Value.{Value}
 use Rattle.strip_value.specs.Table.{Keyed, key_of, row_at, with_row, full_at}
-use Rattle.strip_meaning.specs.Effect.{Effect, Run, effect, unless, refusal, done, run, put_shift, table_at, with_rows, no_table, or_cause, not_held, read_only, derived, misfit, full}
+use Rattle.strip_meaning.specs.Effect.{Effect, Run, effect, unless, refusal, done, run, put_shift, table_at, or_cause, not_held, read_only, derived, misfit, full}
 use Rattle.strip_model.specs.Derived.{with_derived}
 
 -- the rows of a derived table, by its number

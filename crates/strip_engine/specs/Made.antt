@@ -1,7 +1,6 @@
 -- What the steps of a begin make.
-use Rattle.std.specs.Prelude.{◌≡◌, ℕ, ◌≤◌, List, [], ◌∷◌, ◌++◌, Result, Ok, Err}
+use Rattle.std.specs.Prelude.{◌≡◌, ℕ, ◌+◌, ◌≤◌, List, [], ◌∷◌, ◌++◌, Result, Ok, Err}
 use Rattle.std.specs.declared.alloc.AllocError.{AllocError}
-use Rattle.strip_model.specs.declared.entries.Entry.{Entry}
 use Rattle.strip_model.specs.declared.entries.Entry.TheVariants.{Begin}
 use Rattle.strip_model.specs.Kept.{Kept}
 use Rattle.strip_engine.specs.declared.undo.Session.{Session}
@@ -14,8 +13,8 @@ pub record IsMade (caller number count : ℕ) (write read : List ℕ) (session :
   pub holding : session.holds ≡ held_by count write read
   pub clean : session.log.items ≡ []
 
--- its entry, with room for one more
-abbrev pub AddsBegin : List Entry → Session → Kept → Result Unit AllocError → Type 0
-AddsBegin old session new (Ok done) =
-    (new.entries ≡ old ++ Begin session.caller session.number session.holds.write session.holds.read ∷ []) × (1 ≤ new.room)
-AddsBegin old session new (Err none) = new.entries ≡ old
+-- its entry, with room for so many and one more; where memory is wanting there is no less room than before, or there was
+abbrev pub AddsBegin : Kept → Session → ℕ → Kept → Result Unit AllocError → Type 0
+AddsBegin old session running new (Ok done) =
+    (new.entries ≡ old.entries ++ Begin session.caller session.number session.holds.write session.holds.read ∷ []) × (running + 1 ≤ new.room)
+AddsBegin old session running new (Err none) = (new.entries ≡ old.entries) × (new.room ≡ old.room)

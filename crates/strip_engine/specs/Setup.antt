@@ -1,9 +1,11 @@
--- Which tables a catalog has at this stage: base tables alone.
-use Rattle.std.specs.Prelude.{◌≡◌, ℕ, ◌<◌, ◌≤◌, Bool, true, false, List, length, Option, Some, None}
+-- Which tables a catalog has at this stage: base tables, and derived tables of the first form over them.
+use Rattle.std.specs.Prelude.{◌≡◌, ℕ, ◌<◌, ◌≤◌, Bool, true, false, ◌⊎◌, List, length, Option, Some, None}
 use Rattle.std.specs.List.{AllByRecursion}
 use Rattle.strip_value.specs.declared.kinds.Kind.{Kind}
 use Rattle.strip_value.specs.declared.kinds.Kind.TheVariants as kind
 use Rattle.strip_value.specs.declared.tables.TableDef.{TableDef}
+use Rattle.strip_meaning.specs.Contents.{def_at}
+use Rattle.strip_engine.specs.Keepers.{Form, Suits, NamesDiffer, first_def}
 
 -- a base table has no `big` column
 abbrev pub is_plain : Kind → Bool
@@ -24,7 +26,20 @@ pub record IsBase (def : TableDef) : Type 0 where
   pub limit : IsLimit def.limit
   pub stored : def.query ≡ None
 
--- at most 64 tables, all of them base tables
-pub record AreBase (defs : List TableDef) : Type 0 where
+-- a derived table of the first form over a base table among these
+pub record IsFirst (defs : List TableDef) (def : TableDef) : Type 0 where
+  pub form : Form
+  pub kind : Kind
+  pub there : form.source < length defs
+  pub base : IsBase (def_at defs form.source)
+  pub suits : Suits (def_at defs form.source).columns form kind
+  pub differ : NamesDiffer form
+  pub is : def ≡ first_def def.name form kind def.declared
+
+abbrev pub IsTableOf : List TableDef → TableDef → Type 0
+IsTableOf defs def = IsBase def ⊎ IsFirst defs def
+
+-- at most 64 tables, each a base table or a derived one
+pub record AreTables (defs : List TableDef) : Type 0 where
   pub few : length defs ≤ 64
-  pub each : AllByRecursion IsBase defs
+  pub each : AllByRecursion (IsTableOf defs) defs

@@ -1,3 +1,4 @@
+use crate::jobs::{Done, Job};
 use strip_value::Id;
 
 /// What an engine may do in its life.
@@ -46,4 +47,33 @@ pub struct NoSession {
 pub struct Fired {
     pub firings: u32,
     pub rows: u64,
+}
+
+/// The answer to a start.
+#[derive(Debug, Drop)]
+pub enum Taken {
+    Job(Job),
+    /// All pending actions are due later, the first at `next`.
+    NotDue { next: u64 },
+    /// Each due action has a running twin, the first one's being this number.
+    InHand { number: u64 },
+    /// No action is pending.
+    Empty,
+}
+
+/// Why a job wasn't finished.
+#[derive(Debug, Drop)]
+pub enum FinishError {
+    /// No job of this number is running.
+    NotRunning { number: u64 },
+    /// This live transaction holds this table, which the job writes.
+    Blocked { session: u64, table: Id },
+    Memory,
+}
+
+/// A job that wasn't finished, and why.
+#[derive(Debug, Drop)]
+pub struct FinishFault {
+    pub why: FinishError,
+    pub done: Done,
 }

@@ -1,32 +1,44 @@
 ghost use Rattle.std.specs.Prelude.{◌≡◌, ◌≤◌, ◌^◌, ◌+◌, ◌<◌, [], length, IfOk};
-ghost use Rattle.strip_engine.specs.Calls.{IsNew, BeginsSession, Acts, Commits, Undoes};
+ghost use Rattle.strip_engine.specs.Calls.{IsNew, BeginsSession, Acts, Commits, Undoes, Starts, Finishes, HasContent};
 ghost use Rattle.strip_engine.specs.Made.{IsMade, AddsBegin};
+ghost use Rattle.strip_engine.specs.Quiet.{QuietWhere};
 ghost use Rattle.strip_engine.specs.State.{past, fixed};
+ghost use Rattle.strip_model.specs.Counted.{counts};
 ghost use Rattle.strip_model.specs.History.{empty_tables, live};
 ghost use Rattle.strip_model.specs.Legal.{Legal, Names};
 
-use crate::answers::{ActFault, BeginError, CommitError, Fired, Limits, NoSession};
+use crate::answers::{
+    ActFault, BeginError, CommitError, FinishError, FinishFault, Fired, Limits, NoSession, Taken,
+};
+use crate::committing::{merge, prepare_for};
+use crate::finishing::add_sums;
 use crate::holds::holds_of;
+use crate::jobs::{Done, Job};
+use crate::keepers::{Keeper, keepers_of};
+use crate::queue::{Queue, place_of, stop};
 use crate::setup::Catalog;
+use crate::starting::{next_number, prepare_start, start_first};
 use crate::steps::perform;
 use crate::undo::{Session, restore_all};
 use std::alloc::{AllocError, Global};
 use std::marker::Model;
 use strip_model::{Entry, History};
 use strip_table::Table;
-use strip_value::{Act, Duplicate, Id, Reply, TableDef};
+use strip_value::{Act, Counts, Duplicate, Id, Reply, TableDef};
 
 /// The latest moment: a later one counts as this.
 const LAST_MOMENT: u64 = 1 << 63;
 
-/// The database: tables, the transaction in progress, and every entry so far.
+/// The database: tables, the transaction in progress, the actions that wait or run, and every entry so far.
 #[derive(Drop)]
 pub struct Engine {
     catalog: Catalog,
     limits: Limits,
+    keepers: Vec<Keeper>,
     tables: Vec<Table>,
     history: History,
     session: Option<Session>,
+    queue: Queue,
     begins: u64,
     latest: u64,
     alloc: Global,
@@ -47,7 +59,7 @@ impl Model for Engine {
       history = e.history.entries;
     } };
 
-    ghost invariant = { λ e. Keeps (fixed_by e.catalog e.limits.bound_rows) e.tables.items e.history.entries e.history.room e.session e.begins e.latest };
+    ghost invariant = { λ e. Keeps (fixed_by e.catalog e.limits.bound_rows) e.tables.items e.history.entries e.history.room e.session e.begins e.latest e.keepers.items e.queue };
 }
 
 impl Engine {
@@ -63,12 +75,17 @@ impl Engine {
         let Ok(tables) = empty(alloc, catalog.defs()) else {
             return Err((catalog, AllocError));
         };
+        let Ok(keepers) = keepers_of(alloc, catalog.defs()) else {
+            return Err((catalog, AllocError));
+        };
         Ok(Engine {
             catalog,
             limits,
+            keepers,
             tables,
             history: History::new(alloc),
             session: None,
+            queue: Queue::new(alloc),
             begins: 0,
             latest: 0,
             alloc,
@@ -84,14 +101,19 @@ impl Engine {
         let Ok(session) = new_session(
             self.alloc,
             caller,
-            next_session(&self.history, self.begins),
+            next_number(&self.history, self.begins),
             count,
             write,
             read,
         ) else {
             return Err(BeginError::Memory);
         };
-        let Ok(()) = add_begin(self.alloc, &mut self.history, &session) else {
+        let Ok(()) = add_begin(
+            self.alloc,
+            &mut self.history,
+            &session,
+            self.queue.running.len(),
+        ) else {
             return Err(BeginError::Memory);
         };
         let number = session.number;
@@ -113,6 +135,7 @@ impl Engine {
                     &mut live,
                     &mut self.history,
                     act,
+                    self.queue.running.len() + 1,
                 );
                 self.session = Some(live);
                 match done {
@@ -127,29 +150,38 @@ impl Engine {
         }
     }
 
-    /// Ends a transaction: its changes stand, at the moment or at the greatest so far, if that is later.
+    /// Ends a transaction: its changes stand, at the moment or at the greatest so far, if that is later, and the rules make
+    /// actions of them. Where it is refused the transaction is in progress as before.
     pub fn commit(&mut self, session: u64, moment: u64) -> Result<Fired, CommitError>
         ensures { Commits self.old session moment self.new result }
     {
-        match self.session.take() {
-            Some(live) if live.number == session => {
-                let late = moment.min(LAST_MOMENT).max(self.latest);
-                self.history.push(Entry::Commit {
-                    caller: live.caller,
-                    session,
-                    moment: late,
-                });
-                self.latest = late;
-                Ok(Fired {
-                    firings: 0,
-                    rows: 0,
-                })
-            }
-            other => {
-                self.session = other;
-                Err(CommitError::NoSession { session })
-            }
-        }
+        let binding = match prepare_for(
+            self.alloc,
+            &self.session,
+            session,
+            self.keepers.as_slice(),
+            &mut self.queue,
+            self.limits.bound_rows,
+        ) {
+            Ok(binding) => binding,
+            Err(error) => return Err(error),
+        };
+        let Some(live) = self.session.take() else {
+            unreachable!()
+        };
+        let late = moment.min(LAST_MOMENT).max(self.latest);
+        let fired = Fired {
+            firings: binding.fired.len() as u32,
+            rows: binding.rows,
+        };
+        merge(&mut self.queue, self.history.len(), late, binding);
+        self.history.push(Entry::Commit {
+            caller: live.caller,
+            session,
+            moment: late,
+        });
+        self.latest = late;
+        Ok(fired)
     }
 
     /// Ends a transaction: its changes are dropped. It takes no memory.
@@ -169,6 +201,72 @@ impl Engine {
                 self.session = other;
                 Err(NoSession { session })
             }
+        }
+    }
+
+    /// Takes the action that is next at the moment, or at the greatest so far, if that is later. The job is worked, by
+    /// anyone, and then finished here. Only a job that is given stands in the history.
+    pub fn start(&mut self, caller: u32, moment: u64) -> Result<Taken, AllocError>
+        ensures { Starts self.old caller moment self.new result }
+    {
+        let late = moment.min(LAST_MOMENT).max(self.latest);
+        let prepared = prepare_start(
+            self.alloc,
+            self.catalog.defs(),
+            self.keepers.as_slice(),
+            &mut self.queue,
+            &mut self.history,
+        )?;
+        let Some(def) = prepared else {
+            return Ok(Taken::Empty);
+        };
+        let job = start_first(
+            self.alloc,
+            caller,
+            late,
+            def,
+            &mut self.queue,
+            &mut self.history,
+        );
+        self.latest = late;
+        Ok(Taken::Job(job))
+    }
+
+    /// Ends a job: its sums are added to the derived table. Where that is refused, the job comes back, it is still running,
+    /// and the tables are as before.
+    pub fn finish(&mut self, done: Done) -> Result<(), FinishFault>
+        requires alone { live (past self.old) ≡ [] }
+        requires content { HasContent (fixed self.old) (past self.old) done }
+        ensures { Finishes self.old done self.new result }
+    {
+        let number = done.number();
+        let Some(at) = place_of(self.queue.running.as_slice(), number) else {
+            let why = FinishError::NotRunning { number };
+            return Err(FinishFault { why, done });
+        };
+        let table = self.keepers[self.queue.running[at].rule as usize].table;
+        let Ok(()) = add_sums(self.alloc, &mut self.tables, table, done.totals()) else {
+            let why = FinishError::Memory;
+            return Err(FinishFault { why, done });
+        };
+        let started = stop(&mut self.queue, at);
+        self.history.push(Entry::Finish {
+            caller: started.caller,
+            number: started.number,
+        });
+        Ok(())
+    }
+
+    /// The numbers of pending and of running actions, and of the bound rows in both together. Where none is pending and
+    /// none is running, each derived table that is declared to be kept has the rows of its query over the base tables.
+    pub fn counts(&self) -> Counts
+        ensures counts { result ≡ counts (fixed self.now) (past self.now) }
+        ensures quiet { QuietWhere self.now result }
+    {
+        Counts {
+            pending: self.queue.waiting.len() as u64,
+            running: self.queue.running.len() as u64,
+            rows: self.queue.rows,
         }
     }
 
@@ -210,15 +308,6 @@ fn empty(alloc: Global, defs: &[TableDef]) -> Result<Vec<Table>, AllocError>
     Ok(tables)
 }
 
-/// The number after those that have begun. It fits, since a history has fewer than 2^63 entries.
-fn next_session(history: &History, begins: u64) -> u64
-    requires { begins ≤ length history.now.entries }
-    ensures { result ≡ begins + 1 }
-{
-    prove!(begins <= history.len());
-    begins + 1
-}
-
 /// The next session, which holds what it asks for.
 fn new_session(
     alloc: Global,
@@ -239,12 +328,18 @@ fn new_session(
     })
 }
 
-/// The entry of a begin, and room for the one that ends the transaction.
-fn add_begin(alloc: Global, history: &mut History, session: &Session) -> Result<(), AllocError>
-    ensures { AddsBegin history.old.entries session.now history.new result }
+/// The entry of a begin, and room for the one that ends the transaction and for the finishes of the jobs that run.
+fn add_begin(
+    alloc: Global,
+    history: &mut History,
+    session: &Session,
+    running: usize,
+) -> Result<(), AllocError>
+    requires { running < 2 ^ 63 }
+    ensures { AddsBegin history.old session.now running history.new result }
 {
     let held = session.holds.copy(alloc)?;
-    history.reserve(2)?;
+    history.reserve(running + 2)?;
     history.push(Entry::Begin {
         caller: session.caller,
         session: session.number,

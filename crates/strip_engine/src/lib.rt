@@ -3,18 +3,28 @@
 
 mod answers;
 mod causes;
+mod committing;
+mod deltas;
 mod engine;
+mod finishing;
 mod holds;
+mod jobs;
 mod keepers;
+pub mod laws;
+mod queue;
 mod setup;
+mod starting;
 mod steps;
 #[cfg(test)]
 mod tests;
 mod undo;
 
-pub use answers::{ActFault, BeginError, CommitError, Fired, Limits, NoSession};
+pub use answers::{
+    ActFault, BeginError, CommitError, FinishError, FinishFault, Fired, Limits, NoSession, Taken,
+};
 pub use causes::row_misfit;
 pub use engine::Engine;
+pub use jobs::{Done, Job};
 pub use setup::Catalog;
 pub use strip_model::{Entry, History};
-pub use strip_value::{Act, ActError, ColumnDef, Id, Reply, Row, TableDef, Value};
+pub use strip_value::{Act, ActError, ColumnDef, Counts, Id, KeyOf, Reply, Row, TableDef, Value};

@@ -1,5 +1,5 @@
 ghost use Rattle.std.specs.Prelude.{◌≡◌, ◌<◌, length};
-ghost use Rattle.strip_engine.specs.Setup.{AreBase};
+ghost use Rattle.strip_engine.specs.Setup.{AreTables};
 
 use std::marker::Model;
 use strip_value::TableDef;
@@ -15,7 +15,7 @@ impl Model for Catalog {
     ghost use Rattle.std.specs.Coded.{coded_list};
     ghost use Rattle.strip_value.specs.contracts.tables.TableDef.{the_row};
     ghost use Rattle.strip_value.specs.declared.tables.TableDef.{TableDef};
-    ghost use Rattle.strip_engine.specs.Setup.{AreBase};
+    ghost use Rattle.strip_engine.specs.Setup.{AreTables};
 
     ghost Value = { List TableDef };
 
@@ -23,12 +23,12 @@ impl Model for Catalog {
 
     ghost view = { λ c. c.defs.items };
 
-    ghost invariant = { λ c. AreBase c.defs.items };
+    ghost invariant = { λ c. AreTables c.defs.items };
 }
 
 impl Catalog {
     pub fn of(tables: Vec<TableDef>) -> Catalog
-        requires { AreBase tables.items }
+        requires { AreTables tables.items }
         ensures { result ≡ tables.items }
     {
         Catalog { defs: tables }
@@ -37,7 +37,7 @@ impl Catalog {
     /// The definitions by the tables' numbers.
     pub fn defs(&self) -> &[TableDef]
         ensures all { result.now ≡ self.now }
-        ensures base { AreBase self.now }
+        ensures tables { AreTables self.now }
     {
         self.defs.as_slice()
     }

@@ -1,6 +1,6 @@
-ghost use Rattle.std.specs.Prelude.{◌≡◌, ◌<◌, ◌≤◌, length, vec_len, vec_capacity, IfOk, ◌++◌, ◌∷◌, []};
+ghost use Rattle.std.specs.Prelude.{◌≡◌, ◌<◌, ◌≤◌, ◌+◌, ◌^◌, length, vec_len, vec_capacity, IfOk, ◌++◌, ◌∷◌, []};
 ghost use Rattle.std.specs.List.{AllByRecursion};
-ghost use Rattle.strip_engine.specs.Setup.{AreBase};
+ghost use Rattle.strip_engine.specs.Setup.{AreTables};
 ghost use Rattle.strip_engine.specs.Steps.{PutsInto, PutsRow, RepliesTo, Performs, SameSession, defs_of};
 ghost use Rattle.strip_model.specs.Legal.{Names};
 ghost use Rattle.strip_meaning.specs.Effect.{effect};
@@ -9,11 +9,11 @@ ghost use Rattle.strip_value.specs.Kinds.{FitsColumns};
 ghost use Rattle.strip_value.specs.Table.{key_of, column_of, IsTable};
 
 use crate::causes::{cause_before_put, cause_not_held};
-use crate::undo::{Restore, Session};
+use crate::undo::{Logged, Session};
 use std::alloc::{AllocError, Global};
 use strip_model::{Entry, History};
 use strip_table::{PutError, Table};
-use strip_value::{Act, ActError, Duplicate, Holds, Id, Items, Reply, Row, Value};
+use strip_value::{Act, ActError, Change, Duplicate, Holds, Id, Items, Reply, Row, Shift, Value};
 
 fn copied_column(alloc: Global, row: &[Value], column: u32) -> Result<Value, AllocError>
     ensures { IfOk result (λ value. value ≡ column_of row.now column) }
@@ -35,42 +35,39 @@ fn key_row(alloc: Global, columns: &[u32], row: &[Value]) -> Result<Row, AllocEr
     Ok(Row::of(values))
 }
 
-fn push_restore(log: &mut Vec<Restore>, restore: Restore)
+fn push_change(log: &mut Vec<Logged>, key: Row, table: Id, shift: Shift)
     requires { vec_len log.old < vec_capacity log.old }
-    ensures { log.new.items ≡ log.old.items ++ restore ∷ [] }
+    ensures { log.new.items ≡ log.old.items ++ record { key = key; change = record { table = table; shift = shift } } ∷ [] }
 {
-    let Ok(()) = log.push(restore) else {
+    let change = Change { table, shift };
+    let Ok(()) = log.push(Logged { key, change }) else {
         unreachable!()
     };
 }
 
-/// Puts a row into a table, and writes down what takes it back.
+/// Puts a row into a table, and writes down the change, with the copy of the row.
 fn put_into(
     table: &mut Table,
-    log: &mut Vec<Restore>,
+    log: &mut Vec<Logged>,
     id: Id,
-    row: Row,
     key: Row,
+    row: Row,
+    copy: Row,
 ) -> Result<Option<ActError>, AllocError>
     requires fits { FitsColumns table.old.def.columns row }
     requires key { key ≡ key_of table.old.def.key row }
+    requires copy { copy ≡ row }
     requires room { vec_len log.old < vec_capacity log.old }
     ensures puts { PutsInto table.old log.old.items id row table.new log.new.items result }
     ensures table { IsTable table.old.def table.old.rows }
 {
     match table.put(row) {
         Ok(None) => {
-            push_restore(log, Restore::Remove { table: id, key });
+            push_change(log, key, id, Shift::Inserted(copy));
             Ok(None)
         }
         Ok(Some(old)) => {
-            push_restore(
-                log,
-                Restore::Replace {
-                    table: id,
-                    row: old,
-                },
-            );
+            push_change(log, key, id, Shift::Changed { old, new: copy });
             Ok(None)
         }
         Err(PutError::Full { limit }) => Ok(Some(ActError::Full { table: id, limit })),
@@ -83,12 +80,12 @@ pub(crate) fn put(
     alloc: Global,
     tables: &mut Vec<Table>,
     holds: &Holds,
-    log: &mut Vec<Restore>,
+    log: &mut Vec<Logged>,
     id: Id,
     row: &Row,
 ) -> Result<Option<ActError>, AllocError>
     requires there { id < vec_len tables.old }
-    requires base { AreBase (defs_of tables.old.items) }
+    requires tables_are { AreTables (defs_of tables.old.items) }
     ensures { PutsRow holds.now tables.old.items log.old.items id row.now tables.new.items log.new.items result }
 {
     let at = id.0 as usize;
@@ -97,9 +94,10 @@ pub(crate) fn put(
         return Ok(Some(cause));
     }
     let key = key_row(alloc, def.key.as_slice(), row.values())?;
+    let copy = row.copy(alloc)?;
     let row = row.copy(alloc)?;
     log.reserve(1)?;
-    put_into(&mut tables[at], log, id, row, key)
+    put_into(&mut tables[at], log, id, key, row, copy)
 }
 
 fn copied_rows(alloc: Global, table: &Table) -> Result<Items<Row>, AllocError>
@@ -142,11 +140,11 @@ fn replies(
     alloc: Global,
     tables: &mut Vec<Table>,
     holds: &Holds,
-    log: &mut Vec<Restore>,
+    log: &mut Vec<Logged>,
     act: &Act,
 ) -> Result<(Reply, Reply), AllocError>
     requires names { Names (vec_len tables.old) act.now }
-    requires base { AreBase (defs_of tables.old.items) }
+    requires tables_are { AreTables (defs_of tables.old.items) }
     ensures { RepliesTo holds.now tables.old.items log.old.items act.now tables.new.items log.new.items result }
 {
     match act {
@@ -161,23 +159,25 @@ fn replies(
     }
 }
 
-/// Does an act of a session, and writes its entry.
+/// Does an act of a session, and writes its entry. So much room is left in the history.
 pub(crate) fn perform(
     alloc: Global,
     tables: &mut Vec<Table>,
     session: &mut Session,
     history: &mut History,
     act: &Act,
+    left: usize,
 ) -> Result<Reply, AllocError>
     requires names { Names (vec_len tables.old) act.now }
-    requires base { AreBase (defs_of tables.old.items) }
-    requires room { 1 ≤ history.old.room }
+    requires tables_are { AreTables (defs_of tables.old.items) }
+    requires room { left ≤ history.old.room }
+    requires small { left < 2 ^ 63 + 1 }
     ensures performs { Performs session.old tables.old.items history.old.entries act.now session.new tables.new.items history.new.entries result }
     ensures same { SameSession session.old session.new }
-    ensures room { 1 ≤ history.new.room }
+    ensures room { left ≤ history.new.room }
 {
     let given = act.copy(alloc)?;
-    history.reserve(2)?;
+    history.reserve(left + 1)?;
     let (kept, reply) = replies(alloc, tables, &session.holds, &mut session.log, act)?;
     history.push(Entry::Did {
         caller: session.caller,

@@ -1,22 +1,19 @@
-use strip_table::Table;
-use strip_value::{Holds, Id, Row};
+use strip_value::{Change, Holds, Row};
 
-/// What takes one change of a table back.
+/// A change of a row, and the key of the row, by which a new one is taken out again.
 #[derive(Debug, Drop)]
-pub enum Restore {
-    /// The row of the key is new: it goes.
-    Remove { table: Id, key: Row },
-    /// The row was replaced: it comes back.
-    Replace { table: Id, row: Row },
+pub struct Logged {
+    pub key: Row,
+    pub change: Change,
 }
 
-/// A transaction in progress. Its changes are made in place; the log takes them back, the newest at its end.
+/// A transaction in progress. Its changes are made in place; the log has them, the newest at its end.
 #[derive(Debug, Drop)]
 pub struct Session {
     pub caller: u32,
     pub number: u64,
     pub holds: Holds,
-    pub log: Vec<Restore>,
+    pub log: Vec<Logged>,
 }
 
 mod restoring;
