@@ -17,3 +17,4 @@ pub mod QuietCounts
 pub mod QuietQueries
 pub mod QuietTables
 pub mod QuietExamples
+pub mod ActionTests

@@ -1,6 +1,8 @@
 //! The one-thread core: tables, transactions and their history.
 #![tactic(auto)]
 
+#[cfg(test)]
+mod action_tests;
 mod answers;
 mod causes;
 mod committing;
