@@ -1,0 +1,3 @@
+-- What contracts of queries cite.
+pub mod Laws
+pub mod Examples
