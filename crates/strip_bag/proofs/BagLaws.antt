@@ -32,7 +32,7 @@ not_zero_test n ne = by_test (int_eq n (pos 0)) refl
     by_test true e = absurd (ne (zero_of n e))
     by_test false e = e
 
-here_plus : (o : Ordering) (m n : ℤ) → counts_here o (m +ℤ n) ≡ counts_here o m +ℤ counts_here o n
+pub here_plus : (o : Ordering) (m n : ℤ) → counts_here o (m +ℤ n) ≡ counts_here o m +ℤ counts_here o n
 here_plus Less m n = refl
 here_plus Equal m n = refl
 here_plus Greater m n = refl

@@ -1,2 +1,3 @@
 pub mod BagLaws
 pub mod EntryLaws
+pub mod LinearLaws

@@ -2,4 +2,5 @@
 pub mod Codes
 pub mod Entries
 pub mod Laws
+pub mod Linear
 pub mod Examples

@@ -1,5 +1,6 @@
-//! Laws of bags: the contracts of functions that do nothing. The statements stand in `specs/Laws.antt`.
+//! Laws of bags: the contracts of functions that do nothing. The statements stand in `specs/Laws.antt` and, of queries, in `specs/Linear.antt`.
 ghost use Rattle.strip_bag.specs.Laws.{AddingRaises, AddingKeepsBags, RowsCount, BagsOfRows, SumsCount, SumsAreBags, DifferencesCount, DifferencesAreBags, AppendsCount, CountsDecide, AppendsAreSums};
+ghost use Rattle.strip_bag.specs.Linear.{AnswersAreSelected, GroupingIsLinear, GroupsAreTotals, OneEntryIsChosen, SelectingIsLinear, TotalsFollow};
 
 /// Adding raises the count of the row and of no other.
 pub fn adding_raises()
@@ -34,4 +35,27 @@ pub fn appends_count()
 /// Bags in which each row has one count are one bag.
 pub fn counts_decide()
     ensures { CountsDecide }
+{}
+
+/// Selecting rows by a filter, and items of them, is linear; the answer to a query over one entry, without groups, is what is
+/// selected from the bag of that entry's rows.
+pub fn selecting_is_linear()
+    ensures linear { SelectingIsLinear }
+    ensures answers { AnswersAreSelected }
+{}
+
+/// Grouping by columns with sums and counts is linear.
+pub fn grouping_is_linear()
+    ensures { GroupingIsLinear }
+{}
+
+/// The sums and counts of the groups of a query over one entry are the totals of the bag of that entry's rows.
+pub fn groups_are_totals()
+    ensures chosen { OneEntryIsChosen }
+    ensures totals { GroupsAreTotals }
+{}
+
+/// How sums and counts of a group change from one list of rows to another follows from the bag of their difference alone.
+pub fn totals_follow()
+    ensures { TotalsFollow }
 {}
