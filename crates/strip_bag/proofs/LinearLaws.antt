@@ -1,5 +1,5 @@
 -- What is selected from bags and the totals of their groups, as weights of their rows.
-use Rattle.std.proofs.Common.{◌≡◌, ℕ, Bool, true, false, ◌&&◌, cond, List, [], ◌∷◌, ◌++◌, map, filter, length, None, refl, sym, ap, ◌∙◌, arith}
+use Rattle.std.proofs.Common.{◌≡◌, ℕ, Bool, true, false, ◌&&◌, cond, List, [], ◌∷◌, ◌++◌, map, filter, length, None, Some, refl, sym, ap, ap₂, ◌∙◌, arith}
 use Rattle.std.specs.Prelude.{ℤ, pos, neg_ℤ, ◌+ℤ◌, ◌-ℤ◌, ◌*ℤ◌}
 use Rattle.std.proofs.Math.IntN.{ℤ_ind, +ℤ_idr, +ℤ_one, suc_ℤ-*ℤ, zero-*ℤ}
 use Rattle.std.proofs.lemmas.Int.{ints}
@@ -14,13 +14,16 @@ use Rattle.strip_value.specs.declared.queries.Input.{Input}
 use Rattle.strip_value.specs.declared.queries.Item.{Item}
 use Rattle.strip_value.specs.declared.queries.Place.{Place}
 use Rattle.strip_value.specs.declared.queries.Query.{Query}
+use Rattle.strip_value.specs.declared.queries.What.{What}
+use Rattle.strip_value.specs.declared.queries.What.TheVariants as what
 use Rattle.strip_value.specs.declared.values.Value.{Value}
+use Rattle.strip_value.specs.declared.values.Value.TheVariants.{Int}
 use Rattle.strip_value.specs.Bag.{Counted, IsBag, counts_here, count_in, counted_row, added_by, added, bag_of, times_in, bag_sum, bag_less}
 use Rattle.strip_value.specs.Order.{row_cmp}
 use Rattle.strip_value.specs.Table.{put_between}
-use Rattle.strip_value.specs.Query.{Environment, chosen, combinations, entry_rows, group_key, group_of, in_order, mean, number_of, plain_row, put_in_order, rows_of, satisfies, sum_of, value_at}
+use Rattle.strip_value.specs.Query.{Environment, chosen, combinations, distinct, entry_rows, group_key, group_of, group_row, group_value, in_order, mean, number_of, plain_row, put_in_order, rows_of, satisfies, sum_of, value_at}
 use Rattle.strip_value.proofs.Orders.{row_cmp_equal}
-use Rattle.strip_bag.specs.Linear.{selected, is_in_group, total, total_count, rows_in_group, sum_in_group}
+use Rattle.strip_bag.specs.Linear.{selected, is_in_group, total, total_count, total_value, rows_in_group, sum_in_group}
 use Rattle.strip_bag.proofs.BagLaws.{zero_of, here_plus, count_added, bag_added, count_rows, bag_rows, bag_of_sum, count_sum, bag_of_less, count_less, same_counts}
 
 -- ---- weights
@@ -315,6 +318,35 @@ length_is_sum (one ∷ all) = let rest = length_is_sum all in omega (arith, ints
 
 pub length_is_total : (t : Test) (places : List Place) (key : List Value) (rows : List (List Value)) → pos (length (rows_in_group t places key rows)) ≡ total_count t places key (bag_of rows)
 length_is_total t places key rows = length_is_sum (rows_in_group t places key rows) ∙ sum_is_total t places key (calc.Number (pos 1)) rows
+
+-- ---- answers with groups
+
+-- functions that agree at each element make one list
+mapped_alike : {A B : Type 0} (f g : A → B) → ((x : A) → f x ≡ g x) → (xs : List A) → map f xs ≡ map g xs
+mapped_alike f g same [] = refl
+mapped_alike f g same (x ∷ xs) = ap₂ (λ y ys. y ∷ ys) (same x) (mapped_alike f g same xs)
+
+-- the value of an item for a group of a list's rows is made of the totals of the list's bag
+value_is_total : (t : Test) (places : List Place) (key : List Value) (rows : List (List Value)) (w : What) → group_value places key (rows_in_group t places key rows) w ≡ total_value t places key (bag_of rows) w
+value_is_total t places key rows (what.Plain e) = refl
+value_is_total t places key rows (what.Sum e) = ap (λ n. Int n) (sum_is_total t places key e rows)
+value_is_total t places key rows what.Count = ap (λ n. Int n) (length_is_total t places key rows)
+
+-- the row of a key, from what a query over one entry chooses, is made of the totals of the bag of the entry's rows
+row_is_totals : (query : Query) (env : Environment) (entry : Input) (places : List Place) → query.entries ≡ entry ∷ [] → (key : List Value)
+    → group_row query.items places (chosen query env) key ≡ map (λ item. total_value query.filter places key (bag_of (entry_rows env entry)) item.what) query.items
+row_is_totals query env entry places e key =
+    ap (λ all. group_row query.items places all key) (one_chosen query env entry e)
+    ∙ mapped_alike (λ (item : Item). group_value places key (rows_in_group query.filter places key (entry_rows env entry)) item.what) (λ (item : Item). total_value query.filter places key (bag_of (entry_rows env entry)) item.what) (λ item. value_is_total query.filter places key (entry_rows env entry) item.what) query.items
+
+pub answers_grouped : (query : Query) (env : Environment) (entry : Input) (places : List Place) → query.entries ≡ entry ∷ [] → query.group ≡ Some places
+    → mean query env ≡ in_order (map (λ key. map (λ item. total_value query.filter places key (bag_of (entry_rows env entry)) item.what) query.items) (distinct (map (group_key places) (chosen query env))))
+unfolding mean
+answers_grouped query env entry places e some =
+    ap (λ group. in_order (rows_of query.items group (chosen query env))) some
+    ∙ ap in_order (mapped_alike (group_row query.items places (chosen query env)) (λ (key : List Value). map (λ item. total_value query.filter places key (bag_of (entry_rows env entry)) item.what) query.items) (row_is_totals query env entry places e) (distinct (map (group_key places) (chosen query env))))
+
+-- ---- differences of groups
 
 -- what groups of two lists differ by is the total of the difference of their bags
 pub sums_follow : (t : Test) (places : List Place) (key : List Value) (e : Calc) (before after : List (List Value)) → sum_in_group t places key e after -ℤ sum_in_group t places key e before ≡ total t places key e (bag_less (bag_of after) (bag_of before))

@@ -7,11 +7,11 @@ use Rattle.strip_value.specs.declared.expressions.Test.{Test}
 use Rattle.strip_value.specs.declared.expressions.Test.TheVariants as test
 use Rattle.strip_value.specs.declared.queries.Item.{Item}
 use Rattle.strip_value.specs.declared.queries.Place.{Place}
-use Rattle.strip_value.specs.declared.queries.What.TheVariants.{Plain}
+use Rattle.strip_value.specs.declared.queries.What.TheVariants.{Plain, Sum}
 use Rattle.strip_value.specs.declared.values.Value.{Value}
 use Rattle.strip_value.specs.declared.values.Value.TheVariants.{Int}
 use Rattle.strip_value.specs.Bag.{Counted, added, bag_of, bag_sum, bag_less, times_in}
-use Rattle.strip_bag.specs.Linear.{is_in_group, rows_in_group, selected, sum_in_group, total, total_count}
+use Rattle.strip_bag.specs.Linear.{is_in_group, rows_in_group, selected, sum_in_group, total, total_count, total_value}
 
 abbrev row : ℕ → List Value
 row n = Int (pos n) ∷ []
@@ -88,6 +88,10 @@ count_of_one = refl
 
 pub total_of_two : total large by_g (row 2) v mixed ≡ pos 0
 total_of_two = refl
+
+-- the item sum(v) of the group 1
+pub value_of_one : total_value large by_g (row 1) mixed (Sum v) ≡ Int (negsuc 3)
+value_of_one = refl
 
 pub sum_of_one : sum_in_group large by_g (row 1) v (pair 1 5 ∷ pair 2 9 ∷ pair 1 1 ∷ pair 1 6 ∷ []) ≡ pos 11
 sum_of_one = refl

@@ -1,5 +1,5 @@
 -- What queries over one entry make of a signed bag: rows selected, and totals of groups, each row as often as it counts.
-use Rattle.std.specs.Prelude.{◌≡◌, ℤ, pos, ◌+ℤ◌, ◌-ℤ◌, ◌*ℤ◌, Bool, ◌&&◌, List, [], ◌∷◌, map, filter, length, None, if◌then◌else◌}
+use Rattle.std.specs.Prelude.{◌≡◌, ℤ, pos, ◌+ℤ◌, ◌-ℤ◌, ◌*ℤ◌, Bool, ◌&&◌, List, [], ◌∷◌, map, filter, length, None, Some, if◌then◌else◌}
 use Rattle.std.specs.Ordering.{is_eq}
 use Rattle.strip_value.specs.declared.expressions.Calc.{Calc}
 use Rattle.strip_value.specs.declared.expressions.Calc as calc
@@ -8,10 +8,13 @@ use Rattle.strip_value.specs.declared.queries.Input.{Input}
 use Rattle.strip_value.specs.declared.queries.Item.{Item}
 use Rattle.strip_value.specs.declared.queries.Place.{Place}
 use Rattle.strip_value.specs.declared.queries.Query.{Query}
+use Rattle.strip_value.specs.declared.queries.What.{What}
+use Rattle.strip_value.specs.declared.queries.What.TheVariants as what
 use Rattle.strip_value.specs.declared.values.Value.{Value}
+use Rattle.strip_value.specs.declared.values.Value.TheVariants.{Int}
 use Rattle.strip_value.specs.Bag.{Counted, added, bag_less, bag_of, bag_sum}
 use Rattle.strip_value.specs.Order.{row_cmp}
-use Rattle.strip_value.specs.Query.{Environment, chosen, entry_rows, group_key, group_of, mean, number_of, plain_row, satisfies, sum_of, value_at}
+use Rattle.strip_value.specs.Query.{Environment, chosen, distinct, entry_rows, group_key, group_of, in_order, key_value, mean, number_of, plain_row, satisfies, sum_of, value_at}
 
 -- ---- selecting
 
@@ -78,6 +81,20 @@ GroupsAreTotals =
     (t : Test) (places : List Place) (key : List Value) (e : Calc) (rows : List (List Value)) →
     (sum_in_group t places key e rows ≡ total t places key e (bag_of rows))
     × (pos (length (rows_in_group t places key rows)) ≡ total_count t places key (bag_of rows))
+
+-- the value of an item for the group of a key: a group column's value, or a total
+abbrev pub total_value : Test → List Place → List Value → List Counted → What → Value
+total_value t places key bag (what.Plain e) = key_value places key e
+total_value t places key bag (what.Sum e) = Int (total t places key e bag)
+total_value t places key bag what.Count = Int (total_count t places key bag)
+
+-- in the answer to a query over one entry, with groups, the row of each key that the entry's chosen rows have is made of the totals
+-- of the bag of that entry's rows
+abbrev pub GroupedAnswersAreTotals : Type 0
+GroupedAnswersAreTotals =
+    (query : Query) (env : Environment) (entry : Input) (places : List Place) → query.entries ≡ entry ∷ [] → query.group ≡ Some places
+    → mean query env
+    ≡ in_order (map (λ key. map (λ item. total_value query.filter places key (bag_of (entry_rows env entry)) item.what) query.items) (distinct (map (group_key places) (chosen query env))))
 
 -- the sum over a group after, less the sum before, is the total of the difference alone; so is the number of its rows
 abbrev pub TotalsFollow : Type 0

@@ -1,6 +1,6 @@
 //! Laws of bags: the contracts of functions that do nothing. The statements stand in `specs/Laws.antt` and, of queries, in `specs/Linear.antt`.
 ghost use Rattle.strip_bag.specs.Laws.{AddingRaises, AddingKeepsBags, RowsCount, BagsOfRows, SumsCount, SumsAreBags, DifferencesCount, DifferencesAreBags, AppendsCount, CountsDecide, AppendsAreSums};
-ghost use Rattle.strip_bag.specs.Linear.{AnswersAreSelected, GroupingIsLinear, GroupsAreTotals, OneEntryIsChosen, SelectingIsLinear, TotalsFollow};
+ghost use Rattle.strip_bag.specs.Linear.{AnswersAreSelected, GroupedAnswersAreTotals, GroupingIsLinear, GroupsAreTotals, OneEntryIsChosen, SelectingIsLinear, TotalsFollow};
 
 /// Adding raises the count of the row and of no other.
 pub fn adding_raises()
@@ -53,6 +53,7 @@ pub fn grouping_is_linear()
 pub fn groups_are_totals()
     ensures chosen { OneEntryIsChosen }
     ensures totals { GroupsAreTotals }
+    ensures answers { GroupedAnswersAreTotals }
 {}
 
 /// How sums and counts of a group change from one list of rows to another follows from the bag of their difference alone.
