@@ -1,6 +1,6 @@
 -- The state of a run: the pieces answered so far, and what was written.
-use Rattle.std.proofs.Common.{◌≡◌, ℕ, ◌+◌, ◌^◌, ◌≤◌, Bool, true, false, ◌||◌, List, [], ◌∷◌, ◌++◌, length, Option, Result, Ok, Err, refl, sym, ap, ◌∙◌, subst, append_assoc, append-nil, arith, ◌⊎◌, inl, inr}
-use Rattle.std.specs.Io.KnownBytes.{Consumes, Appends, IsAtEnd}
+use Rattle.std.proofs.Common.{◌≡◌, ℕ, ◌^◌, ◌≤◌, Bool, true, false, ◌||◌, List, [], ◌∷◌, ◌++◌, length, Option, Ok, Err, refl, sym, ap, ◌∙◌, subst, append_assoc, append-nil, arith, ◌⊎◌, inl, inr}
+use Rattle.std.specs.Io.KnownBytes.{Appends, IsAtEnd}
 use Rattle.std.proofs.KnownBytes.{Appends-trans, Appends-nil}
 use Rattle.strip_value.specs.declared.pieces.Piece.{Piece}
 use Rattle.strip_value.specs.declared.pieces.Piece.TheVariants.{End}
@@ -10,31 +10,25 @@ use Rattle.strip_outside.specs.Bytes.{WritesAll}
 use Rattle.strip_lines.specs.declared.errors.ReadError.{ReadError}
 use Rattle.strip_lines.specs.declared.errors.ReadError.TheVariants as read
 use Rattle.strip_lines.specs.Answers.{Outcome}
-use Rattle.strip_lines.specs.Reading.{Reading, fresh, coming, ended, whole_statements}
+use Rattle.strip_lines.specs.Reading.{Reading, fresh, ended, whole_statements}
 use Rattle.strip_lines.proofs.ReadingLaws.{coming-fresh, ended-fresh}
 use Rattle.strip_lines.proofs.TextLaws.{IsPiece-from_not_end}
 use Rattle.strip_lines.proofs.RunLaws.{Run, Run-none, Run-piece, Run-kept, Run-end, Run-fault, Run-too_much}
 use Rattle.strip_engine.specs.declared.answers.Limits.{Limits}
-use Rattle.strip.specs.declared.run.Ended.{Ended}
 use Rattle.strip.specs.declared.run.RunError.TheVariants.{Write, Memory}
 use Rattle.strip.specs.Runs.{AreFirst, Runs, Counts, run_error}
 use Rattle.strip.specs.declared.script.Stage.TheVariants.{Empty}
 use Rattle.strip.specs.declared.script.Answer.{Answer}
 use Rattle.strip.specs.declared.script.Stage.{Stage as CodeStage}
-use Rattle.strip.specs.Script.{Stage, Step, empty, step, replies, refuses, answer, is_refused}
+use Rattle.strip.specs.Script.{Stage, empty, step, stage_after, replies, refuses, answer, is_refused}
 use Rattle.strip.specs.Stages.{stage_of, IsSteady, IsStep}
 
--- the stage after pieces were answered
-abbrev pub stage_after : Stage → List Piece → Stage
-stage_after stage [] = stage
-stage_after stage (p ∷ ps) = stage_after (step stage p).stage ps
-
-pub record InRun (most limit : ℕ) (reader : Reading) (left_before left_now : Option (List ℕ)) (in_before in_now : ℕ) (written_before written_now : Option (List ℕ)) (out_before out_now : ℕ) (stage : CodeStage) (refused : Bool) : Type 0 where
+pub record InRun (most limit : ℕ) (reader : Reading) (left_before left_now : Option (List ℕ)) (in_before in_now : ℕ) (written_before written_now : Option (List ℕ)) (out_before out_now : ℕ) (script : CodeStage) (refused : Bool) : Type 0 where
   pub answered : List Piece
   pub run : Run (fresh limit) reader left_before left_now answered
   pub appended : Appends written_before written_now (replies (empty most) answered)
-  pub standing : stage_of stage ≡ stage_after (empty most) answered
-  pub steady : IsSteady stage
+  pub standing : stage_of script ≡ stage_after (empty most) answered
+  pub steady : IsSteady script
   pub refusing : refused ≡ refuses (empty most) answered
   pub in_same : in_now ≡ in_before
   pub out_kept : out_before ≤ out_now
@@ -65,36 +59,36 @@ stage_after-append stage [] p = refl
 stage_after-append stage (q ∷ qs) p = stage_after-append (step stage q).stage qs p
 
 -- no piece yet
-pub InRun-none : (limits : Limits) (limit : ℕ) (reader : Reading) (left : Option (List ℕ)) (ins : ℕ) (written : Option (List ℕ)) (outs : ℕ)
-    → reader ≡ fresh limit → limits.bound_rows ≤ 2 ^ 60 → InRun limits.bound_rows limit reader left left ins ins written written outs outs (Empty limits) false
-InRun-none limits limit reader left ins written outs begun few =
-    subst (λ r. InRun limits.bound_rows limit r left left ins ins written written outs outs (Empty limits) false) (sym begun) (record {
+pub InRun-none : (limits : Limits) (script : CodeStage) (limit : ℕ) (reader : Reading) (left : Option (List ℕ)) (ins : ℕ) (written : Option (List ℕ)) (outs : ℕ)
+    → script ≡ Empty limits → reader ≡ fresh limit → limits.bound_rows ≤ 2 ^ 60 → InRun limits.bound_rows limit reader left left ins ins written written outs outs script false
+InRun-none limits script limit reader left ins written outs is begun few =
+    subst (λ r. InRun limits.bound_rows limit r left left ins ins written written outs outs script false) (sym begun) (record {
       answered = [];
       run = Run-none (fresh limit) left refl (omega arith);
       appended = Appends-nil written;
-      standing = refl;
-      steady = few;
+      standing = ap stage_of is;
+      steady = subst IsSteady (sym is) few;
       refusing = refl;
       in_same = refl;
       out_kept = omega arith;
     })
 
 -- the text that a piece adds to the replies
-one_more : (most : ℕ) (stage : CodeStage) (answered : List Piece) (piece : Piece) (a : Answer) → stage_of stage ≡ stage_after (empty most) answered → IsStep (step (stage_of stage) piece) a
+one_more : (most : ℕ) (script : CodeStage) (answered : List Piece) (piece : Piece) (a : Answer) → stage_of script ≡ stage_after (empty most) answered → IsStep (step (stage_of script) piece) a
     → replies (empty most) answered ++ a.text.items ≡ replies (empty most) (answered ++ piece ∷ [])
-one_more most stage answered piece a standing is_step =
+one_more most script answered piece a standing is_step =
     ap (λ text. replies (empty most) answered ++ text) (is_step.text ∙ ap (λ s. (step s piece).text) standing) ∙ sym (replies-append (empty most) answered piece)
 
 -- a piece was read, answered, and the answer written whole
 pub InRun-piece : (most limit : ℕ) (old new : Reading) (left left1 left2 : Option (List ℕ)) (ins in1 in2 : ℕ) (written written1 written2 : Option (List ℕ)) (outs out1 out2 : ℕ)
-    (stage : CodeStage) (refused : Bool) (piece : Piece) (a : Answer) (text : List ℕ) → (piece ≡ End → ⊥)
-    → InRun most limit old left left1 ins in1 written written1 outs out1 stage refused → Outcome old new left1 left2 in1 in2 (Ok piece)
-    → IsStep (step (stage_of stage) piece) a → Appends written1 written2 text → text ≡ a.text.items → out1 ≤ out2
-    → InRun most limit new left left2 ins in2 written written2 outs out2 a.stage (refused || a.refused)
-InRun-piece most limit old new left left1 left2 ins in1 in2 written written1 written2 outs out1 out2 stage refused piece a text other inside outcome is_step wrote whole kept = record {
+    (script : CodeStage) (refused : Bool) (piece : Piece) (a : Answer) (text : List ℕ) → (piece ≡ End → ⊥)
+    → InRun most limit old left left1 ins in1 written written1 outs out1 script refused → Outcome old new left1 left2 in1 in2 (Ok piece)
+    → IsStep (step (stage_of script) piece) a → Appends written1 written2 text → text ≡ a.text.items → out1 ≤ out2
+    → InRun most limit new left left2 ins in2 written written2 outs out2 a.script (refused || a.refused)
+InRun-piece most limit old new left left1 left2 ins in1 in2 written written1 written2 outs out1 out2 script refused piece a text other inside outcome is_step wrote whole kept = record {
   answered = inside.answered ++ piece ∷ [];
   run = Run-piece (fresh limit) old new left left1 left2 in1 in2 inside.answered piece (IsPiece-from_not_end piece other) inside.run outcome;
-  appended = subst (Appends written written2) (one_more most stage inside.answered piece a inside.standing is_step)
+  appended = subst (Appends written written2) (one_more most script inside.answered piece a inside.standing is_step)
       (Appends-trans written written1 written2 (replies (empty most) inside.answered) a.text.items inside.appended (subst (Appends written1 written2) whole wrote));
   standing = is_step.stage ∙ ap (λ s. (step s piece).stage) inside.standing ∙ sym (stage_after-append (empty most) inside.answered piece);
   steady = is_step.steady;
@@ -126,12 +120,12 @@ Run-within limit reader left left1 answered run = omega (arith, run.counted, run
 
 -- the script has ended
 pub InRun-end : (most limit : ℕ) (old new : Reading) (left left1 left2 : Option (List ℕ)) (ins in1 in2 : ℕ) (written written1 : Option (List ℕ)) (outs out1 : ℕ)
-    (stage : CodeStage) (refused : Bool)
-    → InRun most limit old left left1 ins in1 written written1 outs out1 stage refused → Outcome old new left1 left2 in1 in2 (Ok End)
+    (script : CodeStage) (refused : Bool)
+    → InRun most limit old left left1 ins in1 written written1 outs out1 script refused → Outcome old new left1 left2 in1 in2 (Ok End)
     → (old.taken ≤ old.limit → old.done ≡ true → (new ≡ old) × (left2 ≡ left1))
     → Runs most limit left left2 written written1 (Ok (record { refused = refused }))
 unfolding answer is_refused
-InRun-end most limit old new left left1 left2 ins in1 in2 written written1 outs out1 stage refused inside outcome again =
+InRun-end most limit old new left left1 left2 ins in1 in2 written written1 outs out1 script refused inside outcome again =
     let over = Run-end (fresh limit) old new left left1 left2 in1 in2 inside.answered inside.run outcome again in
     let all : inside.answered ≡ pieces over.given = sym over.all ∙ coming-fresh limit over.given in
     record {
@@ -177,10 +171,10 @@ Run-lacked most limit reader left left1 written written1 all answered others run
 
 -- a read failed
 pub InRun-failed : (most limit : ℕ) (old new : Reading) (left left1 left2 : Option (List ℕ)) (ins in1 in2 : ℕ) (written written1 : Option (List ℕ)) (outs out1 : ℕ)
-    (stage : CodeStage) (refused : Bool) (error : ReadError)
-    → InRun most limit old left left1 ins in1 written written1 outs out1 stage refused → Outcome old new left1 left2 in1 in2 (Err error)
+    (script : CodeStage) (refused : Bool) (error : ReadError)
+    → InRun most limit old left left1 ins in1 written written1 outs out1 script refused → Outcome old new left1 left2 in1 in2 (Err error)
     → Runs most limit left left2 written written1 (Err (run_error error))
-InRun-failed most limit old new left left1 left2 ins in1 in2 written written1 outs out1 stage refused read.Fault inside outcome =
+InRun-failed most limit old new left left1 left2 ins in1 in2 written written1 outs out1 script refused read.Fault inside outcome =
     let stopped = Run-fault (fresh limit) old new left left1 left2 in1 in2 inside.answered inside.run outcome in
     let all : inside.answered ≡ whole_statements stopped.given = sym stopped.whole ∙ ended-fresh limit stopped.given in
     record {
@@ -190,7 +184,7 @@ InRun-failed most limit old new left left1 left2 ins in1 in2 written written1 ou
       appended = inside.appended;
       told = record { answered = ap (replies (empty most)) all; within = omega (arith, stopped.within) };
     }
-InRun-failed most limit old new left left1 left2 ins in1 in2 written written1 outs out1 stage refused (read.TooMuch passed_limit) inside outcome =
+InRun-failed most limit old new left left1 left2 ins in1 in2 written written1 outs out1 script refused (read.TooMuch passed_limit) inside outcome =
     let passed = Run-too_much (fresh limit) old new left left1 left2 in1 in2 passed_limit inside.answered inside.run outcome in
     let all : inside.answered ≡ whole_statements passed.bytes = sym passed.whole ∙ ended-fresh limit passed.bytes in
     record {
@@ -203,37 +197,37 @@ InRun-failed most limit old new left left1 left2 ins in1 in2 written written1 ou
         record { bytes = passed.bytes; past = passed.past; split = refl; full = omega (arith, passed.full); answered = ap (replies (empty most)) all },
       );
     }
-InRun-failed most limit old new left left1 left2 ins in1 in2 written written1 outs out1 stage refused read.Memory inside outcome =
+InRun-failed most limit old new left left1 left2 ins in1 in2 written written1 outs out1 script refused read.Memory inside outcome =
     let run = Run-kept (fresh limit) old new left left1 left2 inside.answered outcome.given inside.run outcome.consumed outcome.counted outcome.same_limit outcome.answer in
     Run-lacked most limit new left left2 written written1 inside.answered inside.answered [] run (sym (append-nil inside.answered)) inside.appended
 
 pub InRun-failed_counts : (most limit : ℕ) (old new : Reading) (left left1 left2 : Option (List ℕ)) (ins in1 in2 : ℕ) (written written1 : Option (List ℕ)) (outs out1 : ℕ)
-    (stage : CodeStage) (refused : Bool) (error : ReadError)
-    → InRun most limit old left left1 ins in1 written written1 outs out1 stage refused → Outcome old new left1 left2 in1 in2 (Err error)
+    (script : CodeStage) (refused : Bool) (error : ReadError)
+    → InRun most limit old left left1 ins in1 written written1 outs out1 script refused → Outcome old new left1 left2 in1 in2 (Err error)
     → Counts ins in2 outs out1 (Err (run_error error))
-InRun-failed_counts most limit old new left left1 left2 ins in1 in2 written written1 outs out1 stage refused read.Fault inside outcome =
+InRun-failed_counts most limit old new left left1 left2 ins in1 in2 written written1 outs out1 script refused read.Fault inside outcome =
     subst (λ n. Rose n in2) inside.in_same outcome.faults
-InRun-failed_counts most limit old new left left1 left2 ins in1 in2 written written1 outs out1 stage refused (read.TooMuch passed_limit) inside outcome =
+InRun-failed_counts most limit old new left left1 left2 ins in1 in2 written written1 outs out1 script refused (read.TooMuch passed_limit) inside outcome =
     outcome.faults ∙ inside.in_same
-InRun-failed_counts most limit old new left left1 left2 ins in1 in2 written written1 outs out1 stage refused read.Memory inside outcome =
+InRun-failed_counts most limit old new left left1 left2 ins in1 in2 written written1 outs out1 script refused read.Memory inside outcome =
     outcome.faults ∙ inside.in_same
 
 -- there was no memory to answer a piece that was read
 pub InRun-lacked : (most limit : ℕ) (old new : Reading) (left left1 left2 : Option (List ℕ)) (ins in1 in2 : ℕ) (written written1 : Option (List ℕ)) (outs out1 : ℕ)
-    (stage : CodeStage) (refused : Bool) (piece : Piece) → (piece ≡ End → ⊥)
-    → InRun most limit old left left1 ins in1 written written1 outs out1 stage refused → Outcome old new left1 left2 in1 in2 (Ok piece)
+    (script : CodeStage) (refused : Bool) (piece : Piece) → (piece ≡ End → ⊥)
+    → InRun most limit old left left1 ins in1 written written1 outs out1 script refused → Outcome old new left1 left2 in1 in2 (Ok piece)
     → Runs most limit left left2 written written1 (Err Memory)
-InRun-lacked most limit old new left left1 left2 ins in1 in2 written written1 outs out1 stage refused piece other inside outcome =
+InRun-lacked most limit old new left left1 left2 ins in1 in2 written written1 outs out1 script refused piece other inside outcome =
     let run = Run-piece (fresh limit) old new left left1 left2 in1 in2 inside.answered piece (IsPiece-from_not_end piece other) inside.run outcome in
     Run-lacked most limit new left left2 written written1 (inside.answered ++ piece ∷ []) inside.answered (piece ∷ []) run refl inside.appended
 
 -- the answer to a piece wasn't written whole
 pub InRun-cut : {E : Type 0} → (most limit : ℕ) (old new : Reading) (left left1 left2 : Option (List ℕ)) (ins in1 in2 : ℕ) (written written1 written2 : Option (List ℕ)) (outs out1 : ℕ)
-    (stage : CodeStage) (refused : Bool) (piece : Piece) (a : Answer) (text : List ℕ) (fault : E) → (piece ≡ End → ⊥)
-    → InRun most limit old left left1 ins in1 written written1 outs out1 stage refused → Outcome old new left1 left2 in1 in2 (Ok piece)
-    → IsStep (step (stage_of stage) piece) a → WritesAll {E = E} written1 written2 text (Err fault) → text ≡ a.text.items
+    (script : CodeStage) (refused : Bool) (piece : Piece) (a : Answer) (text : List ℕ) (fault : E) → (piece ≡ End → ⊥)
+    → InRun most limit old left left1 ins in1 written written1 outs out1 script refused → Outcome old new left1 left2 in1 in2 (Ok piece)
+    → IsStep (step (stage_of script) piece) a → WritesAll {E = E} written1 written2 text (Err fault) → text ≡ a.text.items
     → Runs most limit left left2 written written2 (Err Write)
-InRun-cut most limit old new left left1 left2 ins in1 in2 written written1 written2 outs out1 stage refused piece a text fault other inside outcome is_step cut whole =
+InRun-cut most limit old new left left1 left2 ins in1 in2 written written1 written2 outs out1 script refused piece a text fault other inside outcome is_step cut whole =
     let run = Run-piece (fresh limit) old new left left1 left2 in1 in2 inside.answered piece (IsPiece-from_not_end piece other) inside.run outcome in
     record {
       given = run.given;
@@ -244,7 +238,7 @@ InRun-cut most limit old new left left1 left2 ins in1 in2 written written1 writt
         pieces = inside.answered ++ piece ∷ [];
         unwritten = cut.1.0;
         first = Run-first limit new left left2 (inside.answered ++ piece ∷ []) run;
-        begun = sym (one_more most stage inside.answered piece a inside.standing is_step)
+        begun = sym (one_more most script inside.answered piece a inside.standing is_step)
             ∙ ap (λ t. replies (empty most) inside.answered ++ t) (sym whole ∙ cut.1.2) ∙ sym (append_assoc (replies (empty most) inside.answered) cut.0 cut.1.0);
         within = Run-within limit new left left2 (inside.answered ++ piece ∷ []) run;
       };

@@ -5,10 +5,12 @@ use Rattle.std.specs.Str.{is_utf8, chars}
 use Rattle.std.specs.Char.{encode_utf8}
 use Rattle.strip_value.specs.Pieces.{pieces}
 use Rattle.strip_value.specs.Print.{tuple_text}
+use Rattle.strip_value.specs.Query.{mean}
 use Rattle.strip_ast.specs.Marks.{keyword_of, symbol_of}
 use Rattle.strip_ast.specs.Tokens.{token_at, tokens_of}
 use Rattle.strip_meaning.specs.Effect.{effect}
-use Rattle.strip_model.specs.Texts.{line_of_reply}
+use Rattle.strip_meaning.specs.Firing.{fired}
+use Rattle.strip_model.specs.Texts.{line_of_reply, line_of_spent, line_of_job, line_of_empty, line_of_finished, line_of_not_running}
 use Rattle.strip.specs.Forms.{order_of, order_in}
 use Rattle.strip_ast.specs.Syntax.{names, column, columns, table, stream, step as grammar_step, function, dotted, col, atom, factor, product, sum, comparing, compare, test, conj, expression, whole, item, totalled, total, source, entry, filter, rest, query, plain, derive, enclosed_names, event, bound, unique, manner, trigger, effect as effect_of_rule, rule, maintain, a_value, row, set, insert, put, update, delete, act, begin, show, deed, called, statement}
 use Rattle.strip_parse.specs.Reading.{take_inside}
@@ -79,3 +81,31 @@ pub no_tables :
     ≡ codes "refused NotBuilt\nrefused NotBuilt\nrefused NotBuilt\nrefused NotBuilt\n"
 unfolding pieces tuple_text keyword_of symbol_of token_at tokens_of names column columns table stream grammar_step function dotted col atom factor product sum comparing compare test conj expression whole item totalled total source entry filter rest query plain derive enclosed_names event bound unique manner trigger effect_of_rule rule maintain a_value row set insert put update delete act begin show deed called statement take_inside reading parsed effect line_of_reply order_of order_in step answer digits is_utf8 chars encode_utf8
 no_tables = refl
+
+-- a row of a group, and another in its place; each commit makes an action, and the second one is finished first
+pub kept_by_sums :
+    answer 10 (codes "table t (id int, g int, v int, key id); derive d as select g, sum(v) as s, count(*) as n from t group by g; maintain d by sum; ready; put t (1, 7, 5); put t (1, 7, 6); show d; start; start; start; finish 2; show d; finish 1; show d; finish 1;")
+    ≡ codes "ok\nok\nok\nok\ncount 1\ncount 1\nrows 0\njob 1 keep_d plain due 0 rows 1\njob 2 keep_d plain due 0 rows 2\nempty\nfinished 2\nrows 1\n(7, 1, 0)\nfinished 1\nrows 1\n(7, 6, 1)\nrefused NotRunning 1\n"
+unfolding pieces tuple_text keyword_of symbol_of token_at tokens_of names column columns table stream grammar_step function dotted col atom factor product sum comparing compare test conj expression whole item totalled total source entry filter rest query plain derive enclosed_names event bound unique manner trigger effect_of_rule rule maintain a_value row set insert put update delete act begin show deed called statement take_inside reading parsed mean effect fired line_of_reply line_of_spent line_of_job line_of_empty line_of_finished line_of_not_running order_of order_in step answer digits is_utf8 chars encode_utf8
+kept_by_sums = refl
+
+-- where rules may bind one row, a second one is too many
+pub one_row_bound :
+    answer 1 (codes "table t (id int, g int, v int, key id); derive d as select g, sum(v) as s, count(*) as n from t group by g; maintain d by sum; ready; put t (1, 7, 5); put t (2, 7, 6); show t;")
+    ≡ codes "ok\nok\nok\nok\ncount 1\nrefused Spent 2\nrows 1\n(1, 7, 5)\n"
+unfolding pieces tuple_text keyword_of symbol_of token_at tokens_of names column columns table stream grammar_step function dotted col atom factor product sum comparing compare test conj expression whole item totalled total source entry filter rest query plain derive enclosed_names event bound unique manner trigger effect_of_rule rule maintain a_value row set insert put update delete act begin show deed called statement take_inside reading parsed mean effect fired line_of_reply line_of_spent line_of_job line_of_empty line_of_finished line_of_not_running order_of order_in step answer digits is_utf8 chars encode_utf8
+one_row_bound = refl
+
+-- a derived table that isn't to be kept stays empty, and no row is put into it
+pub not_kept :
+    answer 10 (codes "table t (id int, g text, v int, key id); derive d as select g, sum(v) as s, count(*) as n from t group by g; ready; put t (1, 'a', 5); start; put d ('a', 5, 1); show d;")
+    ≡ codes "ok\nok\nok\ncount 1\nempty\nrefused NotBuilt\nrows 0\n"
+unfolding pieces tuple_text keyword_of symbol_of token_at tokens_of names column columns table stream grammar_step function dotted col atom factor product sum comparing compare test conj expression whole item totalled total source entry filter rest query plain derive enclosed_names event bound unique manner trigger effect_of_rule rule maintain a_value row set insert put update delete act begin show deed called statement take_inside reading parsed mean effect fired line_of_reply line_of_spent line_of_job line_of_empty line_of_finished line_of_not_running order_of order_in step answer digits is_utf8 chars encode_utf8
+not_kept = refl
+
+-- a derived table is made of the one table and of columns of it, sums an `int`, has another name, and is kept once
+pub no_derived :
+    answer 10 (codes "table t (id int, g text, v int, key id); derive d as select g, sum(v) as s, count(*) as n from u group by g; derive t as select g, sum(v) as s, count(*) as n from t group by g; derive d as select v, sum(g) as s, count(*) as n from t group by v; derive d as select g, sum(x) as s, count(*) as n from t group by g; derive d as select g, sum(v) as s, count(*) as n from t group by g; maintain t by sum; maintain d by sum; maintain d by sum; derive e as select g, sum(v) as s, count(*) as n from t group by g;")
+    ≡ codes "ok\nrefused NotBuilt\nrefused NotBuilt\nrefused NotBuilt\nrefused NotBuilt\nok\nrefused NotBuilt\nok\nrefused NotBuilt\nrefused NotBuilt\n"
+unfolding pieces tuple_text keyword_of symbol_of token_at tokens_of names column columns table stream grammar_step function dotted col atom factor product sum comparing compare test conj expression whole item totalled total source entry filter rest query plain derive enclosed_names event bound unique manner trigger effect_of_rule rule maintain a_value row set insert put update delete act begin show deed called statement take_inside reading parsed mean effect fired line_of_reply line_of_spent line_of_job line_of_empty line_of_finished line_of_not_running order_of order_in step answer digits is_utf8 chars encode_utf8
+no_derived = refl

@@ -1,5 +1,5 @@
 -- The answer to a script: what each of its pieces is answered, one after another.
-use Rattle.std.specs.Prelude.{ℕ, ◌+◌, Bool, true, false, ◌||◌, ◌&&◌, if◌then◌else◌, List, [], ◌∷◌, ◌++◌, codes, get_or, Option, Some, None, is_none}
+use Rattle.std.specs.Prelude.{ℕ, ◌+◌, Bool, true, false, not, ◌||◌, ◌&&◌, if◌then◌else◌, List, [], ◌∷◌, ◌++◌, codes, get_or, Option, Some, None, is_none}
 use Rattle.std.specs.List.{list_all}
 use Rattle.std.specs.Str.{bytes_eq}
 use Rattle.strip_value.specs.declared.acts.Act.{Act}
@@ -8,23 +8,26 @@ use Rattle.strip_value.specs.declared.acts.Reply.{Reply}
 use Rattle.strip_value.specs.declared.acts.Reply.TheVariants.{Rows, Count, Refused}
 use Rattle.strip_value.specs.declared.pieces.Piece.{Piece}
 use Rattle.strip_value.specs.declared.pieces.Piece.TheVariants.{Statement, TooLong, Rest, End}
+use Rattle.strip_value.specs.declared.rules.Function.{Function}
 use Rattle.strip_value.specs.declared.tables.TableDef.{TableDef}
 use Rattle.strip_value.specs.declared.values.Value.{Value}
 use Rattle.strip_value.specs.Pieces.{is_blank, pieces}
-use Rattle.strip_meaning.specs.Effect.{misfit, no_table}
+use Rattle.strip_meaning.specs.Contents.{def_at, no_function}
+use Rattle.strip_meaning.specs.Effect.{misfit}
 use Rattle.strip_model.specs.declared.entries.Entry.{Entry}
 use Rattle.strip_model.specs.History.{begins}
 use Rattle.strip_model.specs.Derived.{Fixed}
 use Rattle.strip_model.specs.Legal.{reply_of}
-use Rattle.strip_model.specs.Says.{Call, to_begin, to_act, to_commit, to_undo, spent, says}
+use Rattle.strip_model.specs.Says.{Call, to_begin, to_act, to_commit, to_undo, to_start, to_finish, spent, taken, not_due, in_hand, done, Said, Task, says}
 use Rattle.strip_model.specs.Says.{Answer as SaysAnswer}
-use Rattle.strip_model.specs.Texts.{line_of_reply, line_of_spent}
+use Rattle.strip_model.specs.Texts.{line_of_reply, line_of_spent, line_of_job, line_of_not_due, line_of_in_hand, line_of_empty, line_of_finished, line_of_not_running}
 use Rattle.strip_engine.specs.State.{fixed_by}
 use Rattle.strip.specs.declared.alone.Outcome.{Outcome}
 use Rattle.strip.specs.declared.alone.Outcome.TheVariants.{Replied, Overspent}
 use Rattle.strip.specs.declared.orders.Order.{Order}
-use Rattle.strip.specs.declared.orders.Order.TheVariants.{Declare, Ready, Put, Show, Other}
+use Rattle.strip.specs.declared.orders.Order.TheVariants.{Declare, Derive, Maintain, Ready, Put, Show, Start, Finish}
 use Rattle.strip.specs.Forms.{order_in}
+use Rattle.strip.specs.Derived.{derived_over, kept_by_sums}
 
 -- ---- an act in a transaction of its own
 
@@ -73,18 +76,15 @@ done_alone f past one =
     let reply = reply_of f begun session one in
     ended_for f (after_call f begun (to_act session one)) session reply
 
--- ---- a piece
+-- ---- the stages
 
--- how far the script has come: no table yet, a table declared, each with the most rows that rules may bind; or the setup
--- closed, with what never changes and the history, newest entry first
+-- how far the script has come: no table yet; a table declared; one over it declared too, which may be kept by sums; each with
+-- the most rows that rules may bind. Or the setup closed, with what never changes and the history, newest entry first
 pub data Stage : Type 0 where
   empty : (most : ℕ) → Stage
   declared : (most : ℕ) → TableDef → Stage
+  derived : (most : ℕ) → TableDef → TableDef → Stage
   running : Fixed → List Entry → Stage
-
--- the one table of a script
-abbrev pub table_of : Fixed → TableDef
-table_of f = get_or f.defs 0 no_table.def
 
 -- the text of a reply, whether it refuses, and the stage after it
 pub record Step : Type 0 where
@@ -99,6 +99,54 @@ not_built stage = record { text = codes "refused NotBuilt\n"; refused = true; st
 abbrev pub accepted : Stage → Step
 accepted stage = record { text = codes "ok\n"; refused = false; stage = stage }
 
+-- ---- the setup
+
+-- the setup is closed over these tables
+abbrev pub opened_over : ℕ → List TableDef → Step
+opened_over most defs = accepted (running (fixed_by defs most) [])
+
+-- the base table, and the one derived from it, if there is one
+abbrev pub all_tables : TableDef → Option TableDef → List TableDef
+all_tables def None = def ∷ []
+all_tables def (Some own) = def ∷ own ∷ []
+
+-- a table over the one that stands, if there is one
+abbrev pub derive_step : ℕ → TableDef → Option TableDef → Step
+derive_step most def None = not_built (declared most def)
+derive_step most def (Some own) = accepted (derived most def own)
+
+-- the derived table is to be kept, if it is the one that is named and isn't kept yet
+abbrev pub maintain_step : ℕ → TableDef → TableDef → Bool → Step
+maintain_step most def own false = not_built (derived most def own)
+maintain_step most def own true = accepted (derived most def (kept_by_sums own))
+
+-- ---- an act
+
+-- the number of the table of a name, counted on from id
+abbrev pub table_named : ℕ → List TableDef → List ℕ → Option ℕ
+table_named id [] name = None
+table_named id (def ∷ defs) name = if bytes_eq def.name name then Some id else table_named (id + 1) defs name
+
+-- the row may be put into a table: that isn't made by a query, and the row has its columns
+abbrev pub takes_row : TableDef → List Value → Bool
+takes_row def row = is_none def.query && is_none (misfit def.columns row)
+
+abbrev pub put_at : List TableDef → List Value → Option ℕ → Option Act
+put_at defs row None = None
+put_at defs row (Some id) = if takes_row (def_at defs id) row then Some (act.Put id row) else None
+
+-- the put of a row into the table of a name, if that one is there and takes it
+abbrev pub put_into : List TableDef → List ℕ → List Value → Option Act
+put_into defs name row = put_at defs row (table_named 0 defs name)
+
+abbrev pub show_at : Option ℕ → Option Act
+show_at None = None
+show_at (Some id) = Some (act.Show id)
+
+-- the table of a name shown, if it is there
+abbrev pub show_of : List TableDef → List ℕ → Option Act
+show_of defs name = show_at (table_named 0 defs name)
+
 abbrev pub outcome_text : List TableDef → Outcome → List ℕ
 outcome_text defs (Replied reply) = line_of_reply defs reply
 outcome_text defs (Overspent total) = line_of_spent total
@@ -108,26 +156,53 @@ is_refused_outcome (Replied reply) = is_refusal reply
 is_refused_outcome (Overspent total) = true
 
 abbrev pub acted : Fixed → Done → Step
-acted f done = record { text = outcome_text f.defs done.outcome; refused = is_refused_outcome done.outcome; stage = running f done.past }
+acted f ended = record { text = outcome_text f.defs ended.outcome; refused = is_refused_outcome ended.outcome; stage = running f ended.past }
 
--- an act on the table, if it is named and the act fits it
-abbrev pub act_step : Fixed → List Entry → Bool → Act → Step
-act_step f past false one = not_built (running f past)
-act_step f past true one = acted f (done_alone f past one)
+-- the act, if there is one, in a transaction of its own
+abbrev pub act_step : Fixed → List Entry → Option Act → Step
+act_step f past None = not_built (running f past)
+act_step f past (Some one) = acted f (done_alone f past one)
 
--- the row has the table's columns
-abbrev pub fits_table : TableDef → List Value → Bool
-fits_table def row = is_none (misfit def.columns row)
+-- ---- an action
+
+-- a job by its function's name
+abbrev pub job_line : List Function → Task → List ℕ
+job_line functions task = line_of_job (get_or functions task.action.function no_function).name task.number task.action.key task.due task.rows
+
+abbrev pub start_text : Fixed → SaysAnswer → List ℕ
+start_text f (taken task) = job_line f.functions task
+start_text f (not_due next) = line_of_not_due next
+start_text f (in_hand number) = line_of_in_hand number
+start_text f _ = line_of_empty
+
+-- what is said to a start
+abbrev pub start_step : Fixed → List Entry → Said → Step
+start_step f past said = record { text = start_text f said.answer; refused = false; stage = running f (with_said past said.entry) }
+
+-- what is said to the finish of a number
+abbrev pub finish_step : Fixed → List Entry → ℕ → Option Entry → SaysAnswer → Step
+finish_step f past number entry done = record { text = line_of_finished number; refused = false; stage = running f (with_said past entry) }
+finish_step f past number entry _ = record { text = line_of_not_running number; refused = true; stage = running f past }
+
+abbrev pub finish_said : Fixed → List Entry → ℕ → Said → Step
+finish_said f past number said = finish_step f past number said.entry said.answer
+
+-- ---- a piece
 
 -- what a statement is answered
 abbrev pub order_step : Stage → Order → Step
 order_step (empty most) (Declare def) = accepted (declared most def)
 order_step (empty most) order = not_built (empty most)
-order_step (declared most def) Ready = accepted (running (fixed_by (def ∷ []) most) [])
+order_step (declared most def) (Derive derivation) = derive_step most def (derived_over def derivation)
+order_step (declared most def) Ready = opened_over most (def ∷ [])
 order_step (declared most def) order = not_built (declared most def)
-order_step (running f past) (Put table row) =
-    act_step f past (bytes_eq table (table_of f).name && fits_table (table_of f) row) (act.Put 0 row)
-order_step (running f past) (Show table) = act_step f past (bytes_eq table (table_of f).name) (act.Show 0)
+order_step (derived most def own) (Maintain table) = maintain_step most def own (not own.declared && bytes_eq table own.name)
+order_step (derived most def own) Ready = opened_over most (def ∷ own ∷ [])
+order_step (derived most def own) order = not_built (derived most def own)
+order_step (running f past) (Put table row) = act_step f past (put_into f.defs table row)
+order_step (running f past) (Show table) = act_step f past (show_of f.defs table)
+order_step (running f past) Start = start_step f past (says f past (to_start 0 0))
+order_step (running f past) (Finish number) = finish_said f past number (says f past (to_finish number))
 order_step (running f past) order = not_built (running f past)
 
 -- blanks have no reply
@@ -143,6 +218,11 @@ step stage (Rest bytes) = not_built stage
 step stage End = not_built stage
 
 -- ---- the script
+
+-- the stage after pieces were answered
+abbrev pub stage_after : Stage → List Piece → Stage
+stage_after stage [] = stage
+stage_after stage (p ∷ ps) = stage_after (step stage p).stage ps
 
 -- the text of the replies to these pieces
 abbrev pub replies : Stage → List Piece → List ℕ

@@ -45,7 +45,7 @@ fn stands(names: &[Name], name: &[u8]) -> bool
 }
 
 /// The number of the column of a name.
-fn number(columns: &[ColumnDef], name: &[u8]) -> Option<u32>
+pub(crate) fn number(columns: &[ColumnDef], name: &[u8]) -> Option<u32>
     requires { length columns.now ≤ 16 }
     ensures { result ≡ number_of 0 columns.now name.now }
 {

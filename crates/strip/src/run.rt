@@ -2,7 +2,7 @@
 ghost use Rattle.std.specs.Prelude.{◌≡◌, ◌≤◌, ◌^◌};
 ghost use Rattle.strip.specs.Runs.{Counts, Runs, run_error};
 
-use crate::script::{Stage, take_piece};
+use crate::script::{Script, Stage};
 use std::alloc::Global;
 use strip_engine::Limits;
 use strip_lines::{Piece, Pieces, ReadError};
@@ -41,7 +41,7 @@ pub fn run_script<S: Source, K: Sink>(
     ensures counts { Counts (S.faults source.old) (S.faults source.new) (K.faults out.old) (K.faults out.new) result }
 {
     let mut reader = Pieces::new(alloc, limit);
-    let mut stage = Stage::Empty(limits);
+    let mut script = Script::at(Stage::Empty(limits));
     let mut refused = false;
     'run: loop {
         let piece = match reader.next_statement(source) {
@@ -51,14 +51,13 @@ pub fn run_script<S: Source, K: Sink>(
         match piece {
             Piece::End => return Ok(Ended { refused }),
             piece => {
-                let Ok(answer) = take_piece(alloc, stage, piece) else {
+                let Ok(said) = script.answer(alloc, piece) else {
                     return Err(RunError::Memory);
                 };
-                let Ok(()) = write_all(out, answer.text.as_slice()) else {
+                let Ok(()) = write_all(out, said.text.as_slice()) else {
                     return Err(RunError::Write);
                 };
-                refused |= answer.refused;
-                stage = answer.stage;
+                refused |= said.refused;
             }
         }
     }

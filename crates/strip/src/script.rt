@@ -1,21 +1,27 @@
 //! What the pieces of a script are answered.
-ghost use Rattle.std.specs.Prelude.{◌≡◌, ◌≤◌, ◌^◌, [], ◌∷◌, IfOk};
+ghost use Rattle.std.specs.Prelude.{◌≡◌, ◌≤◌, ◌^◌, ◌&&◌, not, length, IfOk, IfSome};
 ghost use Rattle.std.specs.List.{list_all};
-ghost use Rattle.strip.specs.Script.{step, accepted, order_step, not_built, statement_step, fits_table, acted, done_alone, outcome_text as text_of_outcome, is_refused_outcome, empty, declared, running};
-ghost use Rattle.strip.specs.Stages.{stage_of, IsSteady, IsStep, IsIdle, Opens, DeclaresBase, table_of_engine};
+ghost use Rattle.strip.specs.Script.{step, accepted, all_tables, derive_step, maintain_step, opened_over, order_step, not_built, statement_step, act_step, outcome_text as text_of_outcome, is_refused_outcome, empty, declared, derived, running};
 ghost use Rattle.std.specs.Str.{bytes_eq};
-ghost use Rattle.strip_engine.specs.Setup.{IsBase};
+ghost use Rattle.strip.specs.Derived.{derived_over};
+ghost use Rattle.strip.specs.Stages.{stage_of, IsSteady, IsStep, IsIdle, IsOver, HasThreeNames, DeclaresWell};
+ghost use Rattle.strip_engine.specs.Setup.{AreTables, IsBase};
 ghost use Rattle.strip_engine.specs.State.{past, fixed};
 ghost use Rattle.strip_model.specs.Legal.{Names};
 ghost use Rattle.strip_value.specs.Pieces.{is_blank as blank_byte};
 
 use crate::alone::{Outcome, act_alone, refuses};
+use crate::database::{Database, open, put_of, show_of};
+use crate::derived::{TwoTables, derived_table, keep};
 use crate::forms::order;
-use crate::orders::Order;
+use crate::jobs::{finish, start};
+use crate::orders::{Derivation, Order};
 use std::alloc::{AllocError, Global};
-use strip_engine::{Catalog, Engine, Limits, row_misfit};
+use std::marker::Model;
+use std::mem;
+use strip_engine::Limits;
 use strip_model::{reply_text, spent_text};
-use strip_value::{Act, Id, Name, Piece, Row, TableDef};
+use strip_value::{Act, Name, Piece, TableDef};
 
 /// How far a script has come.
 #[derive(Drop)]
@@ -24,16 +30,72 @@ pub enum Stage {
     Empty(Limits),
     /// The table is declared, and the setup not closed.
     Declared { limits: Limits, def: TableDef },
+    /// A table over it is declared too, which may be kept by sums.
+    Derived { limits: Limits, tables: TwoTables },
     /// The setup is closed.
-    Running(Engine),
+    Running(Database),
 }
 
-/// What a piece is answered, and the stage after it.
+/// A script between two of its pieces.
+#[derive(Drop)]
+pub struct Script {
+    stage: Stage,
+}
+
+impl Model for Script {
+    ghost use Rattle.strip.specs.contracts.script.Stage.{the_row};
+    ghost use Rattle.strip.specs.declared.script.Stage.{Stage as TheStage};
+
+    ghost Value = { TheStage };
+
+    ghost coded = { the_row.coded };
+
+    ghost view = { λ s. s.stage };
+}
+
+impl Script {
+    /// A script that has come so far.
+    pub(crate) fn at(stage: Stage) -> Script
+        ensures { result ≡ stage }
+    {
+        Script { stage }
+    }
+
+    /// How far it has come.
+    fn stage(self) -> Stage
+        ensures { result ≡ self }
+    {
+        self.stage
+    }
+
+    /// Takes the next piece, and gives what it is answered. Nothing is left of a script that memory was wanting for.
+    pub(crate) fn answer(&mut self, alloc: Global, piece: Piece) -> Result<Said, AllocError>
+        requires { IsSteady self.old }
+        ensures { IfOk result (λ said. IsStep (step (stage_of self.old) piece) (record { text = said.text; refused = said.refused; script = self.new })) }
+    {
+        let script = mem::replace(self, Script::at(Stage::Empty(Limits { bound_rows: 0 })));
+        let answer = take_piece(alloc, script, piece)?;
+        *self = answer.script;
+        Ok(Said {
+            text: answer.text,
+            refused: answer.refused,
+        })
+    }
+}
+
+/// What a piece is answered.
+#[derive(Drop)]
+pub struct Said {
+    pub text: Vec<u8>,
+    pub refused: bool,
+}
+
+/// What a piece is answered, and the script after it.
 #[derive(Drop)]
 pub struct Answer {
     pub text: Vec<u8>,
     pub refused: bool,
-    pub stage: Stage,
+    pub script: Script,
 }
 
 fn refuse(alloc: Global, stage: Stage) -> Result<Answer, AllocError>
@@ -44,7 +106,7 @@ fn refuse(alloc: Global, stage: Stage) -> Result<Answer, AllocError>
     Ok(Answer {
         text,
         refused: true,
-        stage,
+        script: Script::at(stage),
     })
 }
 
@@ -56,30 +118,8 @@ fn accept(alloc: Global, stage: Stage) -> Result<Answer, AllocError>
     Ok(Answer {
         text,
         refused: false,
-        stage,
+        script: Script::at(stage),
     })
-}
-
-/// An engine over the one table.
-#[tactic(auto, using(crate::proofs::TableLaws::tables_one))]
-fn open(alloc: Global, limits: Limits, def: TableDef) -> Result<Engine, AllocError>
-    requires base { IsBase def }
-    requires bound { limits.bound_rows ≤ 2 ^ 60 }
-    ensures { IfOk result (Opens limits.bound_rows def) }
-{
-    let mut defs = Vec::with_capacity(alloc, 1)?;
-    defs.push(def)?;
-    let Ok(engine) = Engine::new(alloc, Catalog::of(defs), limits) else {
-        return Err(AllocError);
-    };
-    Ok(engine)
-}
-
-fn table(engine: &Engine) -> &TableDef
-    requires { IsIdle engine.now }
-    ensures { result.now ≡ table_of_engine engine.now }
-{
-    &engine.catalog().defs()[0]
 }
 
 /// The text of an outcome, and whether it is a refusal.
@@ -102,63 +142,133 @@ fn outcome_text(
     }
 }
 
-/// An act on the table, in a transaction of its own.
-fn act_on(alloc: Global, engine: Engine, act: Act) -> Result<Answer, AllocError>
-    requires idle { IsIdle engine }
-    requires names { Names 1 act }
-    ensures { IfOk result (IsStep (acted (fixed engine) (done_alone (fixed engine) (past engine) act))) }
+/// An act in a transaction of its own, if there is one that a statement asks for.
+fn act_on(alloc: Global, database: Database, act: Option<Act>) -> Result<Answer, AllocError>
+    requires idle { IsIdle database }
+    requires names { IfSome act (Names (length database.engine.defs)) }
+    ensures { IfOk result (IsStep (act_step (fixed database.engine) (past database.engine) act)) }
 {
-    let mut engine = engine;
-    let outcome = act_alone(&mut engine, &act)?;
-    let (text, refused) = outcome_text(alloc, engine.catalog().defs(), &outcome)?;
+    let Some(act) = act else {
+        return refuse(alloc, Stage::Running(database));
+    };
+    let mut database = database;
+    let outcome = act_alone(&mut database.engine, &act)?;
+    let (text, refused) = outcome_text(alloc, database.engine.catalog().defs(), &outcome)?;
     Ok(Answer {
         text,
         refused,
-        stage: Stage::Running(engine),
+        script: Script::at(Stage::Running(database)),
     })
 }
 
-fn is_named(engine: &Engine, name: &Name) -> bool
-    requires { IsIdle engine.now }
-    ensures { result ≡ bytes_eq name.now (table_of_engine engine.now).name }
-{
-    name.bytes() == table(engine).name.bytes()
-}
-
-fn is_fit(engine: &Engine, row: &Row) -> bool
-    requires { IsIdle engine.now }
-    ensures { result ≡ fits_table (table_of_engine engine.now) row.now }
-{
-    row_misfit(table(engine).columns.as_slice(), row.values()).is_none()
-}
-
 /// What a statement is answered once the setup is closed.
-fn run_order(alloc: Global, engine: Engine, order: Order) -> Result<Answer, AllocError>
-    requires { IsIdle engine }
-    ensures { IfOk result (IsStep (order_step (running (fixed engine) (past engine)) order)) }
+fn run_order(alloc: Global, database: Database, order: Order) -> Result<Answer, AllocError>
+    requires { IsIdle database }
+    ensures { IfOk result (IsStep (order_step (running (fixed database.engine) (past database.engine)) order)) }
 {
     match order {
         Order::Put { table, row } => {
-            if is_named(&engine, &table) && is_fit(&engine, &row) {
-                act_on(alloc, engine, Act::Put { table: Id(0), row })
-            } else {
-                refuse(alloc, Stage::Running(engine))
-            }
+            let act = put_of(database.engine.catalog().defs(), &table, row);
+            act_on(alloc, database, act)
         }
         Order::Show { table } => {
-            if is_named(&engine, &table) {
-                act_on(alloc, engine, Act::Show { table: Id(0) })
-            } else {
-                refuse(alloc, Stage::Running(engine))
-            }
+            let act = show_of(database.engine.catalog().defs(), &table);
+            act_on(alloc, database, act)
         }
-        _ => refuse(alloc, Stage::Running(engine)),
+        Order::Start => start(alloc, database),
+        Order::Finish { number } => finish(alloc, database, number),
+        _ => refuse(alloc, Stage::Running(database)),
     }
 }
 
-/// What a statement is answered while the setup isn't closed.
-fn declare_order(alloc: Global, limits: Limits, order: Order) -> Result<Answer, AllocError>
-    requires base { DeclaresBase order }
+/// The tables in their order.
+fn tables(alloc: Global, def: TableDef, own: Option<TableDef>) -> Result<Vec<TableDef>, AllocError>
+    ensures { IfOk result (λ defs. defs.items ≡ all_tables def own) }
+{
+    let mut defs = Vec::new(alloc);
+    defs.push(def)?;
+    if let Some(own) = own {
+        defs.push(own)?;
+    }
+    Ok(defs)
+}
+
+/// Closes the setup over these tables.
+fn close(
+    alloc: Global,
+    limits: Limits,
+    def: TableDef,
+    own: Option<TableDef>,
+) -> Result<Answer, AllocError>
+    requires tables { AreTables (all_tables def own) }
+    requires bound { limits.bound_rows ≤ 2 ^ 60 }
+    ensures { IfOk result (IsStep (opened_over limits.bound_rows (all_tables def own))) }
+{
+    let defs = tables(alloc, def, own)?;
+    let database = open(alloc, limits, defs)?;
+    accept(alloc, Stage::Running(database))
+}
+
+/// A table over the one that stands, if the derivation gives one.
+fn derive(
+    alloc: Global,
+    limits: Limits,
+    def: TableDef,
+    derivation: &Derivation,
+) -> Result<Answer, AllocError>
+    requires well { HasThreeNames derivation.now }
+    requires base { IsBase def }
+    requires bound { limits.bound_rows ≤ 2 ^ 60 }
+    ensures { IfOk result (IsStep (derive_step limits.bound_rows def (derived_over def derivation.now))) }
+{
+    match derived_table(alloc, &def, derivation)? {
+        Some(own) => accept(
+            alloc,
+            Stage::Derived {
+                limits,
+                tables: TwoTables::of(def, own),
+            },
+        ),
+        None => refuse(alloc, Stage::Declared { limits, def }),
+    }
+}
+
+/// The derived table is to be kept, if it is the one that is named and isn't kept yet.
+fn maintain(
+    alloc: Global,
+    limits: Limits,
+    def: TableDef,
+    own: TableDef,
+    table: &Name,
+) -> Result<Answer, AllocError>
+    requires base { IsBase def }
+    requires over { IsOver def own }
+    requires bound { limits.bound_rows ≤ 2 ^ 60 }
+    ensures { IfOk result (IsStep (maintain_step limits.bound_rows def own (not own.declared && bytes_eq table.now own.name))) }
+{
+    if !own.declared && table.bytes() == own.name.bytes() {
+        let own = keep(own);
+        accept(
+            alloc,
+            Stage::Derived {
+                limits,
+                tables: TwoTables::of(def, own),
+            },
+        )
+    } else {
+        refuse(
+            alloc,
+            Stage::Derived {
+                limits,
+                tables: TwoTables::of(def, own),
+            },
+        )
+    }
+}
+
+/// What a statement is answered while there is no table.
+fn empty_order(alloc: Global, limits: Limits, order: Order) -> Result<Answer, AllocError>
+    requires well { DeclaresWell order }
     requires bound { limits.bound_rows ≤ 2 ^ 60 }
     ensures { IfOk result (IsStep (order_step (empty limits.bound_rows) order)) }
 {
@@ -168,22 +278,48 @@ fn declare_order(alloc: Global, limits: Limits, order: Order) -> Result<Answer, 
     }
 }
 
-fn close_order(
+/// What a statement is answered while there is a base table alone.
+fn declared_order(
     alloc: Global,
     limits: Limits,
     def: TableDef,
-    order: &Order,
+    order: Order,
 ) -> Result<Answer, AllocError>
+    requires well { DeclaresWell order }
     requires base { IsBase def }
     requires bound { limits.bound_rows ≤ 2 ^ 60 }
-    ensures { IfOk result (IsStep (order_step (declared limits.bound_rows def) order.now)) }
+    ensures { IfOk result (IsStep (order_step (declared limits.bound_rows def) order)) }
 {
     match order {
-        Order::Ready => {
-            let engine = open(alloc, limits, def)?;
-            accept(alloc, Stage::Running(engine))
-        }
+        Order::Ready => close(alloc, limits, def, None),
+        Order::Derive(derivation) => derive(alloc, limits, def, &derivation),
         _ => refuse(alloc, Stage::Declared { limits, def }),
+    }
+}
+
+/// What a statement is answered while there are a base table and one over it.
+fn derived_order(
+    alloc: Global,
+    limits: Limits,
+    def: TableDef,
+    own: TableDef,
+    order: Order,
+) -> Result<Answer, AllocError>
+    requires base { IsBase def }
+    requires over { IsOver def own }
+    requires bound { limits.bound_rows ≤ 2 ^ 60 }
+    ensures { IfOk result (IsStep (order_step (derived limits.bound_rows def own) order)) }
+{
+    match order {
+        Order::Ready => close(alloc, limits, def, Some(own)),
+        Order::Maintain { table } => maintain(alloc, limits, def, own, &table),
+        _ => refuse(
+            alloc,
+            Stage::Derived {
+                limits,
+                tables: TwoTables::of(def, own),
+            },
+        ),
     }
 }
 
@@ -195,33 +331,37 @@ fn is_blank(bytes: &[u8]) -> bool
         .all(|byte| matches!(*byte, b' ' | b'\t' | b'\r' | b'\n'))
 }
 
-fn statement(alloc: Global, stage: Stage, bytes: &[u8]) -> Result<Answer, AllocError>
-    requires { IsSteady stage }
-    ensures { IfOk result (IsStep (statement_step (stage_of stage) bytes.now)) }
+fn statement(alloc: Global, script: Script, bytes: &[u8]) -> Result<Answer, AllocError>
+    requires { IsSteady script }
+    ensures { IfOk result (IsStep (statement_step (stage_of script) bytes.now)) }
 {
     if is_blank(bytes) {
         return Ok(Answer {
             text: Vec::new(alloc),
             refused: false,
-            stage,
+            script,
         });
     }
     let order = order(alloc, bytes)?;
-    match stage {
-        Stage::Empty(limits) => declare_order(alloc, limits, order),
-        Stage::Declared { limits, def } => close_order(alloc, limits, def, &order),
-        Stage::Running(engine) => run_order(alloc, engine, order),
+    match script.stage() {
+        Stage::Empty(limits) => empty_order(alloc, limits, order),
+        Stage::Declared { limits, def } => declared_order(alloc, limits, def, order),
+        Stage::Derived { limits, tables } => {
+            let (def, own) = tables.parts();
+            derived_order(alloc, limits, def, own, order)
+        }
+        Stage::Running(database) => run_order(alloc, database, order),
     }
 }
 
 /// What a piece is answered.
 #[tactic(auto, unfolding(crate::specs::Script::step))]
-pub(crate) fn take_piece(alloc: Global, stage: Stage, piece: Piece) -> Result<Answer, AllocError>
-    requires { IsSteady stage }
-    ensures { IfOk result (IsStep (step (stage_of stage) piece)) }
+fn take_piece(alloc: Global, script: Script, piece: Piece) -> Result<Answer, AllocError>
+    requires { IsSteady script }
+    ensures { IfOk result (IsStep (step (stage_of script) piece)) }
 {
     match piece {
-        Piece::Statement(bytes) => statement(alloc, stage, bytes.as_slice()),
-        _ => refuse(alloc, stage),
+        Piece::Statement(bytes) => statement(alloc, script, bytes.as_slice()),
+        _ => refuse(alloc, script.stage()),
     }
 }

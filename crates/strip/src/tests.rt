@@ -10,6 +10,10 @@ use strip_outside::{Clock, FreeGate, HostFiles, MemorySink, MemorySource};
 const STOCKS: &[u8] =
     b"table stocks (symbol text, price int, key symbol); ready; put stocks ('IBM', 100); put stocks ('IBM', 101); show stocks;\n";
 
+// A table, and one of its groups with their sums and counts that rules keep.
+const GROUPED: &[u8] =
+    b"table t (id int, g int, v int, key id); derive d as select g, sum(v) as s, count(*) as n from t group by g; maintain d by sum; ready; ";
+
 const STOCKS_REPLIES: [&[u8]; 5] = [
     b"ok\n",
     b"ok\n",
@@ -106,7 +110,7 @@ fn first_replies(alloc: Global, count: usize) -> Result<Vec<u8>, AllocError> {
 // Scripts, what they are answered and the status, however the reads and the writes are cut.
 #[test]
 fn scripts_are_answered(rt: HostRuntime) -> Result<(), Fail> {
-    let rows: [(&[u8], &[u8], u8); 7] = [
+    let rows: [(&[u8], &[u8], u8); 8] = [
         (
             STOCKS,
             b"ok\nok\ncount 1\ncount 1\nrows 1\n('IBM', 101)\n",
@@ -132,6 +136,11 @@ fn scripts_are_answered(rt: HostRuntime) -> Result<(), Fail> {
         (
             b"show t; ready; put t (1);",
             b"refused NotBuilt\nrefused NotBuilt\nrefused NotBuilt\n",
+            1,
+        ),
+        (
+            b"table t (id int, g int, v int, key id); derive d as select g, sum(v) as s, count(*) as n from t group by g; maintain d by sum; ready; put t (1, 7, 5); put t (1, 7, 6); show d; start; start; finish 2; show d; finish 1; show d; finish 1;",
+            b"ok\nok\nok\nok\ncount 1\ncount 1\nrows 0\njob 1 keep_d plain due 0 rows 1\njob 2 keep_d plain due 0 rows 2\nfinished 2\nrows 1\n(7, 1, 0)\nfinished 1\nrows 1\n(7, 6, 1)\nrefused NotRunning 1\n",
             1,
         ),
     ];
@@ -251,6 +260,136 @@ fn a_source_past_the_limit_is_refused(rt: HostRuntime) -> Result<(), Fail> {
         }
         assert_eq!(rt; out.written(), wanted.as_slice(), "limit {limit}");
     }
+    Ok(())
+}
+
+// Ten puts of new ids bind ten rows, and where ten are the most, an eleventh is refused.
+#[test]
+fn more_bound_rows_than_the_limit_are_refused(rt: HostRuntime) -> Result<(), Fail> {
+    let mut script = GROUPED.to_vec(rt.alloc())?;
+    let mut wanted = b"ok\nok\nok\nok\n".to_vec(rt.alloc())?;
+    for id in 0..10u64 {
+        let put = format!(in rt.alloc(); "put t ({id}, 7, 5); ")?;
+        script.extend_from_slice(put.as_bytes())?;
+        wanted.extend_from_slice(b"count 1\n")?;
+    }
+    script.extend_from_slice(b"put t (10, 7, 5); put t (3, 7, 5); start;")?;
+    wanted.extend_from_slice(
+        b"refused Spent 11\nrefused Spent 12\njob 1 keep_d plain due 0 rows 1\n",
+    )?;
+    let mut input = MemorySource::new(script, 1000, Vec::new(rt.alloc()));
+    let mut out = MemorySink::new(rt.alloc(), 1000, Vec::new(rt.alloc()), Vec::new(rt.alloc()));
+    let limits = Limits { bound_rows: 10 };
+    match run_script(rt.alloc(), &mut input, &mut out, 10_000, limits) {
+        Ok(ended) => assert!(rt; ended.refused),
+        Err(error) => assert!(rt; false, "{error:?}"),
+    }
+    assert_eq!(rt; out.written(), wanted.as_slice());
+    Ok(())
+}
+
+// A script of puts, starts, finishes and shows, what it is to be answered, and the rows that stand by their ids.
+#[derive(Drop)]
+struct Load {
+    script: Vec<u8>,
+    wanted: Vec<u8>,
+    rows: Vec<Option<(u64, i64)>>,
+}
+
+const IDS: u64 = 40;
+
+const GROUPS: u64 = 5;
+
+const PUTS: u64 = 25;
+
+impl Load {
+    fn new(alloc: Global) -> Result<Load, AllocError> {
+        let mut rows = Vec::new(alloc);
+        for _id in 0..IDS {
+            rows.push(None)?;
+        }
+        Ok(Load {
+            script: GROUPED.to_vec(alloc)?,
+            wanted: b"ok\nok\nok\nok\n".to_vec(alloc)?,
+            rows,
+        })
+    }
+
+    fn line(&mut self, statement: &[u8], reply: &[u8]) -> Result<(), AllocError> {
+        self.script.extend_from_slice(statement)?;
+        self.wanted.extend_from_slice(reply)?;
+        Ok(())
+    }
+
+    // A put of a row that follows from the number; how many rows it binds.
+    fn put(&mut self, alloc: Global, k: u32) -> Result<u64, AllocError> {
+        let k = k as u64;
+        let id = k * 7 % IDS;
+        let group = k / 3 % GROUPS;
+        let value = (k * 37 % 201) as i64 - 100;
+        let mut bound = 1;
+        if let Some(row) = self.rows.get_mut(id as usize) {
+            if row.is_some() {
+                bound = 2;
+            }
+            *row = Some((group, value));
+        }
+        let put = format!(in alloc; "put t ({id}, {group}, {value}); ")?;
+        self.line(put.as_bytes(), b"count 1\n")?;
+        Ok(bound)
+    }
+
+    // The derived table, worked out from the rows that stand.
+    fn show(&mut self, alloc: Global) -> Result<(), AllocError> {
+        let mut lines = Vec::new(alloc);
+        let mut shown: u64 = 0;
+        for group in 0..GROUPS {
+            let mut sum: i64 = 0;
+            let mut count: u64 = 0;
+            for (own, value) in self.rows.iter().flatten() {
+                if *own == group {
+                    sum = sum.wrapping_add(*value);
+                    count = count.wrapping_add(1);
+                }
+            }
+            if count > 0 {
+                shown = shown.wrapping_add(1);
+                let line = format!(in alloc; "({group}, {sum}, {count})\n")?;
+                lines.extend_from_slice(line.as_bytes())?;
+            }
+        }
+        let head = format!(in alloc; "rows {shown}\n")?;
+        self.line(b"show d; ", head.as_bytes())?;
+        self.wanted.extend_from_slice(lines.as_slice())?;
+        Ok(())
+    }
+}
+
+// Some hundred puts over a few ids, with starts in order and finishes out of order: whenever nothing waits and nothing runs, what is
+// shown is the grouped sum of the rows that were put last.
+#[test]
+fn shows_follow_the_puts(rt: HostRuntime) -> Result<(), Fail> {
+    let alloc = rt.alloc();
+    let mut load = Load::new(alloc)?;
+    for batch in 0..12u32 {
+        let first = batch as u64 * PUTS + 1;
+        for turn in 0..25u32 {
+            let bound = load.put(alloc, batch * 25 + turn)?;
+            let number = first + turn as u64;
+            let job = format!(in alloc; "job {number} keep_d plain due 0 rows {bound}\n")?;
+            load.line(b"start; ", job.as_bytes())?;
+        }
+        for turn in 0..PUTS {
+            let number = first + turn * 7 % PUTS;
+            let finish = format!(in alloc; "finish {number}; ")?;
+            let finished = format!(in alloc; "finished {number}\n")?;
+            load.line(finish.as_bytes(), finished.as_bytes())?;
+        }
+        load.show(alloc)?;
+    }
+    let seen = run_top(&rt, alloc, &["script"], load.script.as_slice(), WELL)?;
+    assert_eq!(rt; seen.out, load.wanted);
+    assert_eq!(rt; seen.status, 0);
     Ok(())
 }
 

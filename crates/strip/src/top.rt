@@ -2,6 +2,7 @@
 ghost use Rattle.std.specs.Prelude.{◌≡◌, ◌==◌, true, false, not, IfOk};
 ghost use Rattle.strip_outside.specs.Faults.{Rose};
 ghost use Rattle.strip.specs.Runs.{Counts, Runs};
+ghost use Rattle.strip.specs.Shown.{QuietShowsAreQueries};
 ghost use Rattle.strip.specs.Statuses.{RanScript, asks_script, most_bytes, status_of};
 
 use crate::run::{Ended, RunError, run_script};
@@ -72,6 +73,7 @@ pub fn top<
     ensures read { result ≡ 3 → Rose (S.faults input.old) (S.faults input.new) }
     ensures write { result ≡ 4 → Rose (K.faults out.old) (K.faults out.new) }
     ensures files { _files.new ≡ _files.old }
+    ensures quiet { QuietShowsAreQueries }
 {
     if !is_script(words) {
         return 2;

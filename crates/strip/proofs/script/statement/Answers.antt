@@ -1,8 +1,11 @@
 use Rattle.std.proofs.Common.{sym, subst}
-use Rattle.strip.specs.Stages.{DeclaresBase}
+use Rattle.strip.specs.Stages.{DeclaresWell}
 use Rattle.strip.proofs.BaseLaws.{base_in}
 use Rattle.strip.proofs.script.statement.Goals as goal
 
--- a table that is declared is a base table
-pub declare_order-requires-clause-base : goal.declare_order-requires-clause-base
-declare_order-requires-clause-base c = subst DeclaresBase (sym c.in_ok-order.ensures) (base_in c.args.bytes.now)
+-- what is declared is a base table, or has three names
+pub empty_order-requires-clause-well : goal.empty_order-requires-clause-well
+empty_order-requires-clause-well c = subst DeclaresWell (sym c.in_ok-order.ensures) (base_in c.args.bytes.now)
+
+pub declared_order-requires-clause-well : goal.declared_order-requires-clause-well
+declared_order-requires-clause-well c = subst DeclaresWell (sym c.in_ok-order.ensures) (base_in c.args.bytes.now)

@@ -1,5 +1,6 @@
 use Rattle.std.proofs.Common.{◌∙◌, ◌==◌, ap}
 use Rattle.strip.specs.Statuses.{most_bytes, most_bound}
+use Rattle.strip.proofs.ShownLaws.{quiet_shows_are_queries}
 use Rattle.strip.proofs.StatusLaws.{past_limit}
 use Rattle.strip.proofs.top.top.Goals as goal
 
@@ -13,3 +14,9 @@ returns-clause-script g c asked =
       is = c.status.ensures;
       past_limit = ap (λ s. s == 7) c.status.ensures ∙ past_limit most_bound most_bytes run.given run.wrote _ c.run_script.result run.told;
     }
+
+pub returns-clause-quiet : goal.returns-clause-quiet
+returns-clause-quiet g c = quiet_shows_are_queries
+
+pub returns-then-not-is_script-clause-quiet : goal.returns-then-not-is_script-clause-quiet
+returns-then-not-is_script-clause-quiet g c = quiet_shows_are_queries
