@@ -1,0 +1,20 @@
+-- What may be declared, and what it then stands for.
+pub mod Catalog
+pub mod Trees
+pub mod Queries
+pub mod Resolve
+pub mod Parts
+pub mod Exists
+pub mod Unknown
+pub mod Limits
+pub mod Needs
+pub mod Mismatch
+pub mod Width
+pub mod Bound
+pub mod Grouped
+pub mod Refusals
+pub mod Adds
+pub mod Writing
+pub mod Examples
+pub mod TableExamples
+pub mod RuleExamples
