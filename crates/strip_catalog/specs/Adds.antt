@@ -1,5 +1,7 @@
 -- What is declared after a statement that isn't refused.
-use Rattle.std.specs.Prelude.{ℕ, true, List, [], ◌∷◌, ◌++◌, set, Option, Some, None, slice_get}
+use Rattle.std.specs.Prelude.{ℕ, true, List, [], ◌∷◌, ◌++◌, map, set, Option, Some, None, option_map, find}
+use Rattle.std.specs.Option.{option_or}
+use Rattle.std.specs.Str.{bytes_eq}
 use Rattle.strip_value.specs.declared.rules.BoundDef.{BoundDef}
 use Rattle.strip_value.specs.declared.rules.Function.{Function}
 use Rattle.strip_value.specs.declared.tables.By.{By}
@@ -8,21 +10,17 @@ use Rattle.strip_ast.specs.declared.rules.BoundTree.{BoundTree}
 use Rattle.strip_ast.specs.declared.rules.StepTree.{StepTree}
 use Rattle.strip_ast.specs.declared.statements.Statement.{Statement}
 use Rattle.strip_ast.specs.declared.statements.Statement.TheVariants as st
-use Rattle.strip_catalog.specs.Catalog.{Catalog, table_id, function_number}
+use Rattle.strip_catalog.specs.Catalog.{Catalog, function_number}
 use Rattle.strip_catalog.specs.Exists.{kept_name, kind_of_step}
 use Rattle.strip_catalog.specs.Resolve.{table_of, derived_of, stream_of, function_of, rule_of, function_at, bound_with, bindings_of, in_rule}
 
--- the table, if it is there, is kept by this kind of step
-abbrev pub kept_by : By → List TableDef → ℕ → Option TableDef → List TableDef
-kept_by how tables id None = tables
-kept_by how tables id (Some table) = set tables id (record table { kept = Some how })
+-- a table is kept by the kind of a step of these that names it, else as before
+abbrev pub kept_by : List StepTree → TableDef → Option By
+kept_by steps table = option_or (option_map kind_of_step (find (λ s. bytes_eq (kept_name s) table.name) steps)) table.kept
 
 -- the tables, of which these steps keep some
 abbrev pub kept_by_steps : List TableDef → List StepTree → List TableDef
-kept_by_steps tables [] = tables
-kept_by_steps tables (s ∷ steps) =
-    let id = table_id tables (kept_name s) in
-    kept_by_steps (kept_by (kind_of_step s) tables id (slice_get tables id)) steps
+kept_by_steps tables steps = map (λ (table : TableDef). record table { kept = kept_by steps table }) tables
 
 -- the functions, of which that of a number has other bound tables
 abbrev pub with_bound : List Function → Option ℕ → Function → List BoundDef → List Function

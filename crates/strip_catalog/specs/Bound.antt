@@ -13,18 +13,13 @@ use Rattle.strip_ast.specs.declared.statements.Statement.{Statement}
 use Rattle.strip_ast.specs.declared.statements.Statement.TheVariants as st
 use Rattle.strip_catalog.specs.declared.errors.SetupError.{SetupError}
 use Rattle.strip_catalog.specs.declared.errors.SetupError.TheVariants.{NotBound, BoundDiffers}
-use Rattle.strip_catalog.specs.Catalog.{Catalog, first, each_once, name_if, function_number}
+use Rattle.strip_catalog.specs.Catalog.{Catalog, refused_if, first, is_empty, each_once, name_if, function_number}
 use Rattle.strip_catalog.specs.Mismatch.{same_kind}
 use Rattle.strip_catalog.specs.Needs.{Fit, step_fits, bound_name_at, bound_of_step, bindings_named, answer_named}
 use Rattle.strip_catalog.specs.Queries.{as_columns}
 use Rattle.strip_catalog.specs.Resolve.{Binding, in_rule, bindings_of, columns_bound, columns_so_far, function_at}
 
 -- ---- what isn't bound
-
--- the list is empty
-abbrev pub is_empty : {A : Type 0} → List A → Bool
-is_empty [] = true
-is_empty (x ∷ xs) = false
 
 -- the bound table of a step, if no query binds it
 abbrev pub unbound_table : List Binding → List ℕ → List (List ℕ)
@@ -112,18 +107,14 @@ is_number (Some m) n = m == n
 abbrev pub rules_of : Catalog → List ℕ → List Rule
 rules_of catalog function = filter (λ rule. is_number (function_number catalog.functions function) rule.function) catalog.rules
 
--- a rule binds one name differently, or differently from an earlier rule of its function
-abbrev pub differs : Catalog → Statement → Bool
-differs catalog (st.Rule name table events conditions evaluate function manner) =
-    let bindings = bindings_of (in_rule catalog.tables table) (conditions ++ evaluate) in
-    bind_differently bindings || list_any (is_other (function_at catalog function) (bound_by bindings) manner.unique) (rules_of catalog function)
-differs catalog _ = false
-
--- the function of a rule
-abbrev pub executed : Statement → List ℕ
-executed (st.Rule name table events conditions evaluate function manner) = function
-executed _ = []
+-- a rule of the function with these bindings and this `unique` part binds one name differently, or differs from an earlier one
+abbrev pub differs : Catalog → List ℕ → List Binding → Option (List (List ℕ)) → Bool
+differs catalog function bindings unique =
+    bind_differently bindings || list_any (is_other (function_at catalog function) (bound_by bindings) unique) (rules_of catalog function)
 
 -- the function whose bound tables a rule would bind differently
 abbrev pub bound_differs : Catalog → Statement → Option SetupError
-bound_differs catalog statement = option_map BoundDiffers (first (name_if (differs catalog statement) (executed statement)))
+bound_differs catalog (st.Rule name table events conditions evaluate function manner) =
+    let bindings = bindings_of (in_rule catalog.tables table) (conditions ++ evaluate) in
+    refused_if (differs catalog function bindings manner.unique) (BoundDiffers function)
+bound_differs catalog _ = None

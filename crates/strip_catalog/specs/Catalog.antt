@@ -1,5 +1,5 @@
 -- What is declared: tables, streams, functions and rules, and how their names are looked for.
-use Rattle.std.specs.Prelude.{ℕ, Bool, true, false, not, List, [], ◌∷◌, ◌++◌, Option, Some, None, is_some, unwrap_or, find, position}
+use Rattle.std.specs.Prelude.{ℕ, Bool, true, false, not, List, [], ◌∷◌, map, Option, Some, None, is_some, unwrap_or, filter, scan, find, position}
 use Rattle.std.specs.List.{list_any}
 use Rattle.std.specs.Str.{bytes_eq}
 use Rattle.strip_value.specs.declared.rules.Function.{Function}
@@ -7,6 +7,7 @@ use Rattle.strip_value.specs.declared.rules.Rule.{Rule}
 use Rattle.strip_value.specs.declared.streams.Stream.{Stream}
 use Rattle.strip_value.specs.declared.tables.ColumnDef.{ColumnDef}
 use Rattle.strip_value.specs.declared.tables.TableDef.{TableDef}
+use Rattle.strip_catalog.specs.declared.errors.SetupError.{SetupError}
 
 -- what is declared so far, each kind in the order of its numbers, and whether setup is over
 pub record Catalog : Type 0 where
@@ -20,12 +21,28 @@ pub record Catalog : Type 0 where
 abbrev pub nothing : Catalog
 nothing = record { tables = []; streams = []; functions = []; rules = []; closed = false }
 
--- ---- lists of names
+-- a refusal, if so
+abbrev pub refused_if : Bool → SetupError → Option SetupError
+refused_if true error = Some error
+refused_if false error = None
+
+-- ---- lists
 
 -- the first of a list, if there is one
 abbrev pub first : {A : Type 0} → List A → Option A
 first [] = None
 first (x ∷ xs) = Some x
+
+-- the list is empty
+abbrev pub is_empty : {A : Type 0} → List A → Bool
+is_empty [] = true
+is_empty (x ∷ xs) = false
+
+-- each item of a list, with those before it, the last of these first
+abbrev pub with_earlier : {A : Type 0} → List A → List (A × List A)
+with_earlier xs = scan (λ earlier x. x ∷ earlier) (λ earlier x. (x, earlier)) [] xs
+
+-- ---- lists of names
 
 -- the name is one of these
 abbrev pub has_name : List (List ℕ) → List ℕ → Bool
@@ -36,23 +53,17 @@ abbrev pub name_if : Bool → List ℕ → List (List ℕ)
 name_if true name = name ∷ []
 name_if false name = []
 
--- the names that stand among the earlier ones or before in the list, each where it stands again
-abbrev pub repeated_after : List (List ℕ) → List (List ℕ) → List (List ℕ)
-repeated_after earlier [] = []
-repeated_after earlier (name ∷ names) = name_if (has_name earlier name) name ++ repeated_after (name ∷ earlier) names
+-- a name stands before in its list
+abbrev pub stood_before : List ℕ × List (List ℕ) → Bool
+stood_before name = has_name name.1 name.0
 
 -- the names that stand before in the list, each where it stands again
 abbrev pub repeated : List (List ℕ) → List (List ℕ)
-repeated names = repeated_after [] names
-
--- the names that don't stand among the earlier ones, each once
-abbrev pub fresh_after : List (List ℕ) → List (List ℕ) → List (List ℕ)
-fresh_after earlier [] = []
-fresh_after earlier (name ∷ names) = name_if (not (has_name earlier name)) name ++ fresh_after (name ∷ earlier) names
+repeated names = map (λ name. name.0) (filter stood_before (with_earlier names))
 
 -- the names, each once, in the order of first mention
 abbrev pub each_once : List (List ℕ) → List (List ℕ)
-each_once names = fresh_after [] names
+each_once names = map (λ name. name.0) (filter (λ name. not (stood_before name)) (with_earlier names))
 
 -- ---- what a name stands for
 

@@ -43,7 +43,7 @@ pub comps_may_be_declared : refusal (with_statement nothing parts) comps ≡ Non
 unfolding refusal with_statement
 comps_may_be_declared = refl
 
-abbrev parts_def : TableDef
+abbrev pub parts_def : TableDef
 parts_def = record {
   name = codes "parts";
   columns = txt "comp" ∷ txt "symbol" ∷ int "price" ∷ int "weight" ∷ [];
@@ -54,7 +54,7 @@ parts_def = record {
   declared = false;
 }
 
-abbrev comps_def : TableDef
+abbrev pub comps_def : TableDef
 comps_def = record {
   name = codes "comps";
   columns = txt "comp" ∷ big "total" ∷ big "n" ∷ [];
@@ -130,7 +130,7 @@ unfolding refusal with_statement
 product_of_three = refl
 
 -- function f redo comps by b
-abbrev f_declared : Catalog
+abbrev pub f_declared : Catalog
 f_declared = with_statement declared (function "f" (redo "comps" "b" ∷ []))
 
 -- rule NAME on parts when inserted then evaluate (select i.comp from inserted i) bind as b execute f MANNER

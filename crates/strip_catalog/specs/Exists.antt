@@ -1,7 +1,8 @@
 -- Names that are taken: those that a statement declares though they are there, or names twice where once is meant, and
 -- tables that are kept otherwise.
-use Rattle.std.specs.Prelude.{ℕ, Bool, true, false, not, ◌&&◌, ◌||◌, List, [], ◌∷◌, ◌++◌, map, Option, Some, None, option_map, unwrap_or, is_some, flat_map, filter_map, slice_get}
+use Rattle.std.specs.Prelude.{ℕ, Bool, true, false, not, ◌&&◌, ◌||◌, List, [], ◌++◌, map, Option, Some, None, option_map, unwrap_or, is_some, flat_map, filter_map, filter, slice_get}
 use Rattle.std.specs.List.{list_any}
+use Rattle.std.specs.Option.{option_map_or}
 use Rattle.std.specs.Str.{bytes_eq}
 use Rattle.strip_value.specs.declared.rules.Function.{Function}
 use Rattle.strip_value.specs.declared.rules.Step.{Step}
@@ -20,7 +21,7 @@ use Rattle.strip_ast.specs.declared.statements.Statement.{Statement}
 use Rattle.strip_ast.specs.declared.statements.Statement.TheVariants as st
 use Rattle.strip_catalog.specs.declared.errors.SetupError.{SetupError}
 use Rattle.strip_catalog.specs.declared.errors.SetupError.TheVariants.{Exists}
-use Rattle.strip_catalog.specs.Catalog.{Catalog, first, name_if, repeated, table_named, stream_named, function_named, rule_named, is_derived}
+use Rattle.strip_catalog.specs.Catalog.{Catalog, first, with_earlier, name_if, repeated, table_named, stream_named, function_named, rule_named, is_derived}
 use Rattle.strip_catalog.specs.Queries.{alias_of, item_names}
 use Rattle.strip_catalog.specs.Resolve.{function_at}
 
@@ -53,35 +54,25 @@ same_by by.Sum by.Sum = true
 same_by by.Key by.Key = true
 same_by _ _ = false
 
--- the table's rule and function were made from its query
-abbrev pub is_declared : Option TableDef → Bool
-is_declared None = false
-is_declared (Some table) = table.declared
-
--- steps of the other kind keep the table
-abbrev pub is_kept_by_other : By → Option By → Bool
-is_kept_by_other how None = false
-is_kept_by_other how (Some kept) = not (same_by how kept)
-
--- steps of functions that are there keep the table of this name by the other kind of step
-abbrev pub is_kept_before : By → Option TableDef → Bool
-is_kept_before how None = false
-is_kept_before how (Some table) = is_kept_by_other how table.kept
+-- the table bars steps of this kind: its rule and function were made from its query, or steps of functions that are there
+-- keep it by the other kind
+abbrev pub bars : By → Option TableDef → Bool
+bars how None = false
+bars how (Some table) = table.declared || option_map_or (λ kept. not (same_by how kept)) table.kept false
 
 -- the other step keeps the same table by the other kind of step
 abbrev pub keeps_otherwise : StepTree → StepTree → Bool
 keeps_otherwise s other = bytes_eq (kept_name other) (kept_name s) && not (same_by (kind_of_step s) (kind_of_step other))
 
--- the step's table is derived, and it is declared, or other steps keep it by the other kind of step
-abbrev pub is_kept_otherwise : List TableDef → List StepTree → StepTree → Bool
-is_kept_otherwise tables earlier s =
-    let table = table_named tables (kept_name s) in
-    is_derived table && (is_declared table || is_kept_before (kind_of_step s) table || list_any (keeps_otherwise s) earlier)
+-- the step's table is derived, and it bars the step, or earlier steps of the function keep it by the other kind
+abbrev pub is_kept_otherwise : List TableDef → StepTree × List StepTree → Bool
+is_kept_otherwise tables s =
+    let table = table_named tables (kept_name s.0) in
+    is_derived table && (bars (kind_of_step s.0) table || list_any (keeps_otherwise s.0) s.1)
 
--- the tables of the steps that are kept otherwise; the other steps of a function are the earlier ones
-abbrev pub taken_by_steps : List TableDef → List StepTree → List StepTree → List (List ℕ)
-taken_by_steps tables earlier [] = []
-taken_by_steps tables earlier (s ∷ steps) = name_if (is_kept_otherwise tables earlier s) (kept_name s) ++ taken_by_steps tables (s ∷ earlier) steps
+-- the tables of the steps that are kept otherwise
+abbrev pub taken_by_steps : List TableDef → List StepTree → List (List ℕ)
+taken_by_steps tables steps = map (λ s. kept_name s.0) (filter (is_kept_otherwise tables) (with_earlier steps))
 
 -- the table that a step of a function keeps
 abbrev pub kept_number : Step → ℕ
@@ -90,7 +81,7 @@ kept_number (step.Redo table bound) = table
 
 -- the function keeps a declared table: it was made with it
 abbrev pub is_made : List TableDef → Function → Bool
-is_made tables function = list_any (λ s. is_declared (slice_get tables (kept_number s))) function.steps
+is_made tables function = list_any (λ (table : TableDef). table.declared) (filter_map (λ s. slice_get tables (kept_number s)) function.steps)
 
 -- ---- statements
 
@@ -107,7 +98,7 @@ taken catalog (st.Table name columns key limit) =
 taken catalog (st.Stream name table marked) = name_if (is_some (stream_named catalog.streams name)) name
 taken catalog (st.Derive name query) = name_if (is_some (table_named catalog.tables name)) name ++ taken_in_query query
 taken catalog (st.Function name steps) =
-    name_if (is_some (function_named catalog.functions name)) name ++ taken_by_steps catalog.tables [] steps
+    name_if (is_some (function_named catalog.functions name)) name ++ taken_by_steps catalog.tables steps
 taken catalog (st.Rule name table events conditions evaluate function manner) =
     name_if (is_some (rule_named catalog.rules name)) name
     ++ (flat_map taken_in_event events

@@ -28,6 +28,30 @@ more_than at what number = limit_if (nat_lt at number) what at
 abbrev pub one_more_than : ℕ → LimitKind → ℕ → List SetupError
 one_more_than at what number = limit_if (nat_le at number) what at
 
+-- the most tables, streams, functions and rules
+abbrev pub most_tables : ℕ
+most_tables = 64
+
+abbrev pub most_streams : ℕ
+most_streams = 64
+
+abbrev pub most_functions : ℕ
+most_functions = 64
+
+abbrev pub most_rules : ℕ
+most_rules = 128
+
+-- the most steps of a function
+abbrev pub most_steps : ℕ
+most_steps = 4
+
+-- the most queries of a rule, and how long its actions may be put off at most
+abbrev pub most_queries : ℕ
+most_queries = 8
+
+abbrev pub most_delay : ℕ
+most_delay = 4294967295
+
 -- the most columns of a table and items of a query
 abbrev pub most_columns : ℕ
 most_columns = 16
@@ -44,7 +68,7 @@ limits_in_query query =
 
 -- the limits that the i-th query of a rule passes, counted from 1
 abbrev pub limits_in_bound : ℕ × BoundTree → List SetupError
-limits_in_bound numbered = more_than 8 kind.Queries numbered.0 ++ limits_in_query (numbered.1).query
+limits_in_bound numbered = more_than most_queries kind.Queries numbered.0 ++ limits_in_query (numbered.1).query
 
 -- a row limit that isn't 1 to the most that there can be
 abbrev pub limit_of_rows : Option ℕ → List SetupError
@@ -59,13 +83,14 @@ limits_in_deed _ = []
 -- the limits that a statement passes, each where it is passed
 abbrev pub limits : Catalog → Statement → List SetupError
 limits catalog (st.Table name columns key rows) =
-    one_more_than 64 kind.Tables (length catalog.tables) ++ (more_than most_columns kind.Columns (length columns) ++ limit_of_rows rows)
-limits catalog (st.Stream name table marked) = one_more_than 64 kind.Streams (length catalog.streams)
-limits catalog (st.Derive name query) = one_more_than 64 kind.Tables (length catalog.tables) ++ limits_in_query query
-limits catalog (st.Function name steps) = one_more_than 64 kind.Functions (length catalog.functions) ++ more_than 4 kind.Steps (length steps)
+    one_more_than most_tables kind.Tables (length catalog.tables) ++ (more_than most_columns kind.Columns (length columns) ++ limit_of_rows rows)
+limits catalog (st.Stream name table marked) = one_more_than most_streams kind.Streams (length catalog.streams)
+limits catalog (st.Derive name query) = one_more_than most_tables kind.Tables (length catalog.tables) ++ limits_in_query query
+limits catalog (st.Function name steps) =
+    one_more_than most_functions kind.Functions (length catalog.functions) ++ more_than most_steps kind.Steps (length steps)
 limits catalog (st.Rule name table events conditions evaluate function manner) =
-    one_more_than 128 kind.Rules (length catalog.rules)
-    ++ (flat_map limits_in_bound (enumerate_from 1 (conditions ++ evaluate)) ++ more_than 4294967295 kind.Delay manner.after)
+    one_more_than most_rules kind.Rules (length catalog.rules)
+    ++ (flat_map limits_in_bound (enumerate_from 1 (conditions ++ evaluate)) ++ more_than most_delay kind.Delay manner.after)
 limits catalog (st.Deed caller d) = limits_in_deed d
 limits catalog _ = []
 

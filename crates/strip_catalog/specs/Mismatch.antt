@@ -1,5 +1,5 @@
 -- Kinds that don't go together.
-use Rattle.std.specs.Prelude.{ℕ, Bool, true, false, not, ◌&&◌, ◌||◌, List, [], ◌∷◌, ◌++◌, map, Option, Some, None, option_map, unwrap_or, flat_map, filter_map, filter}
+use Rattle.std.specs.Prelude.{ℕ, Bool, true, false, not, ◌||◌, if◌then◌else◌, List, [], ◌∷◌, ◌++◌, map, Option, Some, None, option_map, unwrap_or, flat_map, filter_map, filter}
 use Rattle.std.specs.List.{list_all}
 use Rattle.strip_value.specs.declared.kinds.Kind.{Kind}
 use Rattle.strip_value.specs.declared.kinds.Kind.TheVariants as kind
@@ -8,7 +8,6 @@ use Rattle.strip_value.specs.Bounds.{kind_of}
 use Rattle.strip_ast.specs.declared.deeds.Deed.{Deed}
 use Rattle.strip_ast.specs.declared.deeds.Deed.TheVariants as deed
 use Rattle.strip_ast.specs.declared.expressions.Expr.{Expr}
-use Rattle.strip_ast.specs.declared.expressions.Op.{Op}
 use Rattle.strip_ast.specs.declared.queries.QueryTree.{QueryTree}
 use Rattle.strip_ast.specs.declared.statements.Statement.{Statement}
 use Rattle.strip_ast.specs.declared.statements.Statement.TheVariants as st
@@ -16,10 +15,10 @@ use Rattle.strip_catalog.specs.declared.errors.SetupError.{SetupError}
 use Rattle.strip_catalog.specs.declared.errors.SetupError.TheVariants.{KindMismatch}
 use Rattle.strip_catalog.specs.Catalog.{Catalog, first}
 use Rattle.strip_catalog.specs.Needs.{Need, Fit, fits_of, answer_named}
-use Rattle.strip_catalog.specs.Parts.{Part, Purpose, truth, sum, Whole, parts, columns_in, is_arithmetic, joins_truth, filter_wholes, query_wholes, update_wholes}
+use Rattle.strip_catalog.specs.Parts.{OpClass, arithmetic, comparison, connective, class_of, columns_in, is_truth, Part, Purpose, sum, Whole, parts_of, filter_wholes, query_wholes, update_wholes}
 use Rattle.strip_catalog.specs.Queries.{Scope, Entry, Answer, calc_of, entries_of, own_entry, kinds_of}
 use Rattle.strip_catalog.specs.Resolve.{Binding, outside_rules, in_rule, bindings_of, function_at}
-use Rattle.strip_catalog.specs.Trees.{Two, Not}
+use Rattle.strip_catalog.specs.Trees.{Two}
 
 -- the two kinds are one
 abbrev pub same_kind : Kind → Kind → Bool
@@ -37,24 +36,19 @@ abbrev pub differ : Bool → Bool → Bool
 differ true b = not b
 differ false b = b
 
--- the expression is a truth value
-abbrev pub is_truth : Expr → Bool
-is_truth (Two o a b) = not (is_arithmetic o)
-is_truth (Not a) = true
-is_truth _ = false
-
 -- the expression's value is a text
 abbrev pub is_text : List Entry → Expr → Bool
 is_text entries e = is_text_kind (kind_of (kinds_of entries) (calc_of entries e))
 
 -- what an operator joins doesn't go together: a text in arithmetic, or a number and a text that are compared
-abbrev pub joins_badly : Op → Bool → Bool → Bool
-joins_badly o a_is_text b_is_text =
-    (is_arithmetic o && (a_is_text || b_is_text)) || (not (is_arithmetic o) && not (joins_truth o) && differ a_is_text b_is_text)
+abbrev pub joins_badly : OpClass → Bool → Bool → Bool
+joins_badly arithmetic a_is_text b_is_text = a_is_text || b_is_text
+joins_badly comparison a_is_text b_is_text = differ a_is_text b_is_text
+joins_badly connective a_is_text b_is_text = false
 
 -- what the expression joins doesn't go together
 abbrev pub is_joined_badly : List Entry → Expr → Bool
-is_joined_badly entries (Two o a b) = joins_badly o (is_text entries a) (is_text entries b)
+is_joined_badly entries (Two o a b) = joins_badly (class_of o) (is_text entries a) (is_text entries b)
 is_joined_badly entries _ = false
 
 -- the part is a truth value where a value is wanted, or the reverse, or what it joins doesn't go together
@@ -65,11 +59,6 @@ is_mismatched entries part = differ (is_truth part.expr) part.wants_truth || is_
 abbrev pub first_column : Expr → Option (List ℕ)
 first_column e = option_map (λ column. column.name) (first (columns_in e))
 
--- a truth value is wanted
-abbrev pub wants_truth : Purpose → Bool
-wants_truth truth = true
-wants_truth _ = false
-
 -- what is summed up, if it is a text
 abbrev pub summed_text : List Entry → Purpose → Expr → List Expr
 summed_text entries sum e = filter (is_text entries) (e ∷ [])
@@ -78,7 +67,7 @@ summed_text entries _ e = []
 -- the first columns of the parts of an expression that are mismatched
 abbrev pub mismatched_in : List Entry → Whole → List (Option (List ℕ))
 mismatched_in entries whole =
-    map (λ part. first_column part.expr) (filter (is_mismatched entries) (parts (wants_truth whole.purpose) whole.expr))
+    map (λ part. first_column part.expr) (filter (is_mismatched entries) (parts_of whole))
     ++ map first_column (summed_text entries whole.purpose whole.expr)
 
 -- the same of several expressions
@@ -92,8 +81,7 @@ mismatched_in_query scope query = mismatched_in_all (entries_of scope query) (qu
 -- a bound column has another kind than the key column, or is a text for a total
 abbrev pub has_other_kind : Need → Option Answer → Bool
 has_other_kind need None = false
-has_other_kind need (Some answer) =
-    (need.is_total && is_text_kind answer.kind) || (not need.is_total && not (same_kind answer.kind need.column.kind))
+has_other_kind need (Some answer) = if need.is_added then is_text_kind answer.kind else not (same_kind answer.kind need.column.kind)
 
 -- the bound columns that steps can't use
 abbrev pub mismatched_in_steps : List Fit → List (Option (List ℕ))

@@ -12,10 +12,10 @@ use Rattle.strip_value.specs.declared.tables.TableDef.{TableDef}
 use Rattle.strip_catalog.specs.Queries.{Answer}
 use Rattle.strip_catalog.specs.Resolve.{Binding}
 
--- a column that a step needs: one named like a key column of the table that it keeps, or like a total
+-- a column that a step needs: one named like a key column of the table that it keeps, or like a total, which is added
 pub record Need : Type 0 where
   pub column : ColumnDef
-  pub is_total : Bool
+  pub is_added : Bool
 
 -- the key columns of a table, in the key's order
 abbrev pub key_columns : TableDef → List ColumnDef
@@ -32,12 +32,12 @@ total_columns table = map (λ numbered. numbered.1) (filter (λ numbered. not (i
 -- what every step needs: the key columns, if the table is there
 abbrev pub key_needs : Option TableDef → List Need
 key_needs None = []
-key_needs (Some table) = map (λ column. record { column = column; is_total = false }) (key_columns table)
+key_needs (Some table) = map (λ column. record { column = column; is_added = false }) (key_columns table)
 
 -- what it needs besides to add: the totals
 abbrev pub total_needs : Option TableDef → List Need
 total_needs None = []
-total_needs (Some table) = map (λ column. record { column = column; is_total = true }) (total_columns table)
+total_needs (Some table) = map (λ column. record { column = column; is_added = true }) (total_columns table)
 
 -- the columns that a step needs: those of the key, and to add those of the totals
 abbrev pub step_needs : List TableDef → Step → List Need

@@ -14,18 +14,30 @@ use Rattle.strip_catalog.specs.Trees.{Two, Not}
 
 -- ---- operators
 
--- `+`, `-` and `*`
-abbrev pub is_arithmetic : Op → Bool
-is_arithmetic op.Add = true
-is_arithmetic op.Sub = true
-is_arithmetic op.Mul = true
-is_arithmetic _ = false
+-- the classes of operators: `+`, `-` and `*`; what compares; `and` and `or`
+pub data OpClass : Type 0 where
+  arithmetic : OpClass
+  comparison : OpClass
+  connective : OpClass
 
--- `and` and `or`
-abbrev pub joins_truth : Op → Bool
-joins_truth op.And = true
-joins_truth op.Or = true
+-- the class of an operator
+abbrev pub class_of : Op → OpClass
+class_of op.Add = arithmetic
+class_of op.Sub = arithmetic
+class_of op.Mul = arithmetic
+class_of op.And = connective
+class_of op.Or = connective
+class_of _ = comparison
+
+-- it joins truth values; others join values
+abbrev pub joins_truth : OpClass → Bool
+joins_truth connective = true
 joins_truth _ = false
+
+-- it gives a truth value; arithmetic gives a value
+abbrev pub gives_truth : OpClass → Bool
+gives_truth arithmetic = false
+gives_truth _ = true
 
 -- ---- expressions
 
@@ -36,6 +48,12 @@ columns_in (Two o a b) = columns_in a ++ columns_in b
 columns_in (Not a) = columns_in a
 columns_in _ = []
 
+-- the expression is a truth value
+abbrev pub is_truth : Expr → Bool
+is_truth (Two o a b) = gives_truth (class_of o)
+is_truth (Not a) = true
+is_truth _ = false
+
 -- a part of an expression, and whether a truth value is wanted there
 pub record Part : Type 0 where
   pub expr : Expr
@@ -43,7 +61,9 @@ pub record Part : Type 0 where
 
 -- the parts of an expression, itself among them: a part before the whole, a left one before a right one
 abbrev pub parts : Bool → Expr → List Part
-parts wants_truth (Two o a b) = parts (joins_truth o) a ++ (parts (joins_truth o) b ++ record { expr = Two o a b; wants_truth = wants_truth } ∷ [])
+parts wants_truth (Two o a b) =
+    let joins = joins_truth (class_of o) in
+    parts joins a ++ (parts joins b ++ record { expr = Two o a b; wants_truth = wants_truth } ∷ [])
 parts wants_truth (Not a) = parts true a ++ record { expr = Not a; wants_truth = wants_truth } ∷ []
 parts wants_truth e = record { expr = e; wants_truth = wants_truth } ∷ []
 
@@ -59,6 +79,15 @@ pub data Purpose : Type 0 where
 pub record Whole : Type 0 where
   pub expr : Expr
   pub purpose : Purpose
+
+-- it is for a truth value
+abbrev pub is_for_truth : Purpose → Bool
+is_for_truth truth = true
+is_for_truth _ = false
+
+-- the parts of such an expression
+abbrev pub parts_of : Whole → List Part
+parts_of whole = parts (is_for_truth whole.purpose) whole.expr
 
 -- the expression of an item, if it has one
 abbrev pub total_wholes : Total → List Whole

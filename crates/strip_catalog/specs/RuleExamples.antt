@@ -6,8 +6,8 @@ use Rattle.strip_value.specs.declared.queries.Input.TheVariants as input
 use Rattle.strip_value.specs.declared.queries.What.TheVariants as what
 use Rattle.strip_value.specs.declared.rules.Event.TheVariants as bound_event
 use Rattle.strip_value.specs.declared.rules.Step.TheVariants as bound_step
+use Rattle.strip_value.specs.declared.tables.By.{By}
 use Rattle.strip_value.specs.declared.tables.By.TheVariants as by
-use Rattle.strip_value.specs.declared.tables.TableDef.{TableDef}
 use Rattle.strip_ast.specs.declared.expressions.Op.TheVariants as op
 use Rattle.strip_ast.specs.declared.queries.ItemTree.{ItemTree}
 use Rattle.strip_ast.specs.declared.queries.Origin.TheVariants as origin
@@ -20,13 +20,13 @@ use Rattle.strip_ast.specs.declared.statements.Statement.{Statement}
 use Rattle.strip_ast.specs.declared.statements.Statement.TheVariants as st
 use Rattle.strip_catalog.specs.declared.errors.LimitKind.TheVariants as limit
 use Rattle.strip_catalog.specs.declared.errors.SetupError.{SetupError}
-use Rattle.strip_catalog.specs.declared.errors.SetupError.TheVariants.{Exists, Unknown, Limit, KindMismatch, TooWide, ReadsDerived, NotBound, BoundDiffers}
+use Rattle.strip_catalog.specs.declared.errors.SetupError.TheVariants.{Exists, Unknown, Limit, KindMismatch, TooWide, ReadsDerived, NotBound, BoundDiffers, NotGrouped}
 use Rattle.strip_catalog.specs.Adds.{with_statement}
 use Rattle.strip_catalog.specs.Catalog.{Catalog}
-use Rattle.strip_catalog.specs.Examples.{declared}
+use Rattle.strip_catalog.specs.Examples.{declared, parts_def, comps_def, f_declared}
 use Rattle.strip_catalog.specs.Refusals.{refusal}
 use Rattle.strip_catalog.specs.Trees.{Two}
-use Rattle.strip_catalog.specs.Writing.{bare, dotted, number, item, item_as, table, before, moved, moved_as, select, select_where, int, big, txt, make_table, add, redo, function, asks, binds, plainly, unique_on, after, updated, rule}
+use Rattle.strip_catalog.specs.Writing.{bare, dotted, number, item, item_as, sum_as, count_as, table, before, moved, moved_as, select, select_where, column, grouped, int, big, txt, make_table, add, redo, function, asks, binds, plainly, unique_on, after, updated, rule}
 
 -- ---- functions
 
@@ -111,17 +111,50 @@ pub tables_are_kept : map (λ table. table.kept) (with_statement declared f).tab
 unfolding with_statement
 tables_are_kept = refl
 
--- the same two tables, where the second is declared with the function that keeps it
-abbrev kept : Catalog
-kept = record (with_statement declared (function "keep_comps" (add "delta_comps" "comps" ∷ []))) { tables = map (λ (table : TableDef). record table { declared = true }) declared.tables }
+pub tables_are_kept_by_keys : map (λ table. table.kept) (with_statement declared (function "g" (redo "comps" "b" ∷ []))).tables ≡ None ∷ Some by.Key ∷ []
+unfolding with_statement
+tables_are_kept_by_keys = refl
 
-pub step_into_a_declared_table : refusal kept f ≡ Some (Exists (codes "comps"))
+-- what no step of a further function names is kept as before
+pub tables_stay_kept : map (λ table. table.kept) (with_statement (with_statement declared f) (function "g" [])).tables ≡ None ∷ Some by.Sum ∷ []
+unfolding with_statement
+tables_stay_kept = refl
+
+-- the same two tables, of which the derived one alone was declared with the function that keeps it, by this one step
+abbrev kept : StepTree → By → Catalog
+kept s how = record (with_statement declared (function "keep_comps" (s ∷ []))) { tables = parts_def ∷ record comps_def { kept = Some how; declared = true } ∷ [] }
+
+-- by `add delta_comps into comps`, and by `redo comps by changed_comps`
+abbrev kept_by_sums : Catalog
+kept_by_sums = kept (add "delta_comps" "comps") by.Sum
+
+abbrev kept_by_keys : Catalog
+kept_by_keys = kept (redo "comps" "changed_comps") by.Key
+
+-- no other function's step may keep it, of the same kind either
+pub step_into_a_declared_table : refusal kept_by_sums (function "g" (add "b" "comps" ∷ [])) ≡ Some (Exists (codes "comps"))
 unfolding refusal with_statement
 step_into_a_declared_table = refl
 
-pub made_function : refusal kept (rule "r" "parts" (event.Inserted ∷ []) [] "keep_comps" plainly) ≡ Some (Exists (codes "keep_comps"))
+pub redo_of_a_declared_table : refusal kept_by_keys (function "g" (redo "comps" "b" ∷ [])) ≡ Some (Exists (codes "comps"))
+unfolding refusal with_statement
+redo_of_a_declared_table = refl
+
+-- and no further rule may have its function
+pub made_function : refusal kept_by_sums (rule "r" "parts" (event.Inserted ∷ []) [] "keep_comps" plainly) ≡ Some (Exists (codes "keep_comps"))
 unfolding refusal with_statement
 made_function = refl
+
+pub made_function_that_redoes : refusal kept_by_keys (rule "r" "parts" (event.Inserted ∷ []) [] "keep_comps" plainly) ≡ Some (Exists (codes "keep_comps"))
+unfolding refusal with_statement
+made_function_that_redoes = refl
+
+-- the same function, where its table isn't declared
+pub function_that_was_not_made :
+    refusal (with_statement declared (function "keep_comps" (add "delta_comps" "comps" ∷ []))) (rule "r" "parts" (event.Inserted ∷ []) (binds (select (item (bare "comp") ∷ item_as (bare "price") "total" ∷ item_as (number 1) "n" ∷ []) (moved origin.Inserted ∷ [])) "delta_comps" ∷ []) "keep_comps" plainly)
+    ≡ None
+unfolding refusal with_statement
+function_that_was_not_made = refl
 
 -- ---- rules of a function that adds
 
@@ -271,6 +304,26 @@ pub wide_total : rule_of (binds (inserted (item (bare "comp") ∷ item_as (bare 
 unfolding refusal with_statement
 wide_total = refl
 
+-- (select comp, sum(price) as total, count(*) as n from inserted group by comp) bind as b: a sum may be as wide as a
+-- column of the kind `big`, so it can't be added
+pub total_of_a_grouped_query :
+    rule_of (binds (grouped (item (bare "comp") ∷ sum_as (bare "price") "total" ∷ count_as "n" ∷ []) (moved origin.Inserted ∷ []) (column "comp" ∷ [])) "b" ∷ []) plainly
+    ≡ Some (TooWide 85070591730234615865843651857942052864)
+unfolding refusal with_statement
+total_of_a_grouped_query = refl
+
+-- a step that redoes needs the key alone: (select price as comp from inserted) bind as b for `redo comps by b`
+pub number_for_a_key_that_is_redone :
+    refusal f_declared (rule "r" "parts" (event.Inserted ∷ []) (binds (inserted (item_as (bare "price") "comp" ∷ [])) "b" ∷ []) "f" plainly) ≡ Some (KindMismatch (Some (codes "comp")))
+unfolding refusal with_statement
+number_for_a_key_that_is_redone = refl
+
+-- and no totals, so they may have any kind and be as wide as they can
+pub totals_beside_a_key_that_is_redone :
+    refusal f_declared (rule "r" "parts" (event.Inserted ∷ []) (binds (inserted (item (bare "comp") ∷ item_as (bare "execute_order") "total" ∷ item_as (bare "symbol") "n" ∷ [])) "b" ∷ []) "f" plainly) ≡ None
+unfolding refusal with_statement
+totals_beside_a_key_that_is_redone = refl
+
 -- ---- derived tables that are read
 
 pub rule_on_a_derived_table : refusal added (rule "r" "comps" (event.Inserted ∷ []) [] "f" plainly) ≡ Some (ReadsDerived (codes "comps"))
@@ -356,6 +409,23 @@ pub later_rule_is_unique_otherwise : after_rule (needed ∷ []) (unique_on ("com
 unfolding refusal with_statement
 later_rule_is_unique_otherwise = refl
 
+-- ---- groups
+
+-- (select sum(price) as s from inserted)
+pub sum_without_groups : rule_of (needed ∷ asks (inserted (sum_as (bare "price") "s" ∷ [])) ∷ []) plainly ≡ Some NotGrouped
+unfolding refusal with_statement
+sum_without_groups = refl
+
+-- (select count(*) as k from inserted)
+pub count_without_groups : rule_of (needed ∷ asks (inserted (count_as "k" ∷ [])) ∷ []) plainly ≡ Some NotGrouped
+unfolding refusal with_statement
+count_without_groups = refl
+
+-- (select count(*) as k, comp from inserted group by comp)
+pub count_with_groups : rule_of (needed ∷ asks (grouped (count_as "k" ∷ item (bare "comp") ∷ []) (moved origin.Inserted ∷ []) (column "comp" ∷ [])) ∷ []) plainly ≡ None
+unfolding refusal with_statement
+count_with_groups = refl
+
 -- ---- conditions
 
 -- why `rule r on parts when inserted if (QUERY) then evaluate .. bind as b execute f` is refused
@@ -406,6 +476,10 @@ condition_that_binds_first = refl
 pub condition_that_binds_last : refusal (with_statement added full) (st.Rule (codes "q") (codes "parts") (event.Inserted ∷ []) (needed ∷ []) (further ∷ []) (codes "f") plainly) ≡ Some (BoundDiffers (codes "f"))
 unfolding refusal with_statement
 condition_that_binds_last = refl
+
+pub condition_without_groups : if_ (inserted (count_as "k" ∷ [])) ≡ Some NotGrouped
+unfolding refusal with_statement
+condition_without_groups = refl
 
 -- ---- what a rule declares
 

@@ -185,6 +185,32 @@ pub delete_by_another_name : refusal declared (st.Deed None (deed.Delete (codes 
 unfolding refusal with_statement
 delete_by_another_name = refl
 
+-- insert into nope, put into nope, show nope
+pub insert_into_nothing : refusal declared (st.Deed None (deed.Insert (codes "nope") [])) ≡ Some (Unknown (codes "nope"))
+unfolding refusal with_statement
+insert_into_nothing = refl
+
+pub put_into_nothing : refusal declared (st.Deed None (deed.Put (codes "nope") [])) ≡ Some (Unknown (codes "nope"))
+unfolding refusal with_statement
+put_into_nothing = refl
+
+pub show_of_nothing : refusal declared (st.Deed None (deed.Show (codes "nope"))) ≡ Some (Unknown (codes "nope"))
+unfolding refusal with_statement
+show_of_nothing = refl
+
+-- what is there may be named, a derived table too
+pub insert_into_parts : refusal declared (st.Deed None (deed.Insert (codes "parts") [])) ≡ None
+unfolding refusal with_statement
+insert_into_parts = refl
+
+pub put_into_parts : refusal declared (st.Deed None (deed.Put (codes "parts") [])) ≡ None
+unfolding refusal with_statement
+put_into_parts = refl
+
+pub show_of_comps : refusal declared (st.Deed None (deed.Show (codes "comps"))) ≡ None
+unfolding refusal with_statement
+show_of_comps = refl
+
 -- ---- limits
 
 -- so many items
@@ -300,6 +326,25 @@ pub truth_as_item : asked (select (item_as (Two op.Eq (bare "price") (number 1))
 unfolding refusal with_statement
 truth_as_item = refl
 
+-- select comp, sum(e) as s from parts group by comp
+abbrev summed_up : Expr → Option SetupError
+summed_up e = asked (grouped (item (bare "comp") ∷ sum_as e "s" ∷ []) (table "parts" ∷ []) (column "comp" ∷ []))
+
+-- sum('x'), where no column is in it
+pub sum_of_a_text_alone : summed_up (text "x") ≡ Some (KindMismatch None)
+unfolding refusal with_statement
+sum_of_a_text_alone = refl
+
+-- sum(price = 1)
+pub sum_of_a_truth_value : summed_up (Two op.Eq (bare "price") (number 1)) ≡ Some (KindMismatch (Some (codes "price")))
+unfolding refusal with_statement
+sum_of_a_truth_value = refl
+
+-- sum(1)
+pub sum_of_a_number : summed_up (number 1) ≡ None
+unfolding refusal with_statement
+sum_of_a_number = refl
+
 -- update parts set weight = price + comp
 pub text_in_a_set :
     refusal declared (st.Deed None (deed.Update (codes "parts") (record { column = codes "weight"; value = Two op.Add (bare "price") (bare "comp") } ∷ []) None))
@@ -337,6 +382,30 @@ pub total_summed_up :
     asked (grouped (item (bare "comp") ∷ sum_as (bare "total") "s" ∷ []) (table "comps" ∷ []) (column "comp" ∷ [])) ≡ Some (TooWide 85070591730234615865843651857942052864)
 unfolding refusal with_statement
 total_summed_up = refl
+
+-- price * price * price
+abbrev cube : Expr
+cube = Two op.Mul (Two op.Mul (bare "price") (bare "price")) (bare "price")
+
+-- update parts set weight = CUBE, and update parts set weight = 1 where CUBE = 1
+pub wide_set : refusal declared (st.Deed None (deed.Update (codes "parts") (record { column = codes "weight"; value = cube } ∷ []) None)) ≡ Some (TooWide 9903520314283042199192993792)
+unfolding refusal with_statement
+wide_set = refl
+
+pub wide_filter_of_an_update :
+    refusal declared (st.Deed None (deed.Update (codes "parts") (record { column = codes "weight"; value = number 1 } ∷ []) (Some (Two op.Eq cube (number 1))))) ≡ Some (TooWide 9903520314283042199192993792)
+unfolding refusal with_statement
+wide_filter_of_an_update = refl
+
+-- a product of two may be set
+pub narrow_set : refusal declared (st.Deed None (deed.Update (codes "parts") (record { column = codes "weight"; value = Two op.Mul (bare "price") (bare "price") } ∷ []) None)) ≡ None
+unfolding refusal with_statement
+narrow_set = refl
+
+-- delete parts where CUBE = 1
+pub wide_filter_of_a_delete : refusal declared (st.Deed None (deed.Delete (codes "parts") (Some (Two op.Eq cube (number 1))))) ≡ Some (TooWide 9903520314283042199192993792)
+unfolding refusal with_statement
+wide_filter_of_a_delete = refl
 
 -- ---- derived tables that are read
 

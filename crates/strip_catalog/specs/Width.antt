@@ -11,9 +11,8 @@ use Rattle.strip_ast.specs.declared.statements.Statement.TheVariants as st
 use Rattle.strip_catalog.specs.declared.errors.SetupError.{SetupError}
 use Rattle.strip_catalog.specs.declared.errors.SetupError.TheVariants.{TooWide}
 use Rattle.strip_catalog.specs.Catalog.{Catalog, first}
-use Rattle.strip_catalog.specs.Mismatch.{is_truth, wants_truth}
 use Rattle.strip_catalog.specs.Needs.{Fit, fits_of}
-use Rattle.strip_catalog.specs.Parts.{Purpose, sum, Whole, parts, filter_wholes, query_wholes, update_wholes}
+use Rattle.strip_catalog.specs.Parts.{is_truth, Purpose, sum, Whole, parts_of, filter_wholes, query_wholes, update_wholes}
 use Rattle.strip_catalog.specs.Queries.{Scope, Entry, Answer, calc_of, entries_of, own_entry, kinds_of}
 use Rattle.strip_catalog.specs.Resolve.{outside_rules, in_rule, bindings_of, function_at}
 
@@ -22,15 +21,18 @@ abbrev pub is_computed : Expr → Bool
 is_computed (Column of name) = false
 is_computed e = not (is_truth e)
 
--- what is summed up
-abbrev pub summed : Purpose → Expr → List Expr
-summed sum e = e ∷ []
-summed _ e = []
+-- the bare column that is summed up
+abbrev pub summed_column : Purpose → Expr → List Expr
+summed_column sum (Column of name) = Column of name ∷ []
+summed_column _ e = []
 
--- the magnitudes that are bounded in an expression: those of its computed parts, and of what is summed up
+-- what is bounded in an expression: its computed parts, and a bare column that is summed up
+abbrev pub bounded_in : Whole → List Expr
+bounded_in whole = filter is_computed (map (λ part. part.expr) (parts_of whole)) ++ summed_column whole.purpose whole.expr
+
+-- the magnitudes that are bounded in an expression
 abbrev pub magnitudes_in : List Entry → Whole → List ℕ
-magnitudes_in entries whole =
-    map (λ e. magnitude_of (kinds_of entries) (calc_of entries e)) (filter is_computed (map (λ part. part.expr) (parts (wants_truth whole.purpose) whole.expr)) ++ summed whole.purpose whole.expr)
+magnitudes_in entries whole = map (λ e. magnitude_of (kinds_of entries) (calc_of entries e)) (bounded_in whole)
 
 -- the same of several expressions
 abbrev pub magnitudes_in_all : List Entry → List Whole → List ℕ
@@ -43,7 +45,7 @@ magnitudes_in_query scope query = magnitudes_in_all (entries_of scope query) (qu
 -- the magnitudes of the bound columns that are added as totals
 abbrev pub magnitudes_in_steps : List Fit → List ℕ
 magnitudes_in_steps fits =
-    filter_map (λ fit. option_map (λ (answer : Answer). answer.magnitude) fit.given) (filter (λ fit. fit.need.is_total) fits)
+    filter_map (λ fit. option_map (λ (answer : Answer). answer.magnitude) fit.given) (filter (λ fit. fit.need.is_added) fits)
 
 -- the magnitudes that are bounded in an act
 abbrev pub magnitudes_in_deed : List TableDef → Deed → List ℕ
@@ -62,6 +64,10 @@ magnitudes catalog (st.Rule name table events conditions evaluate function manne
 magnitudes catalog (st.Deed caller d) = magnitudes_in_deed catalog.tables d
 magnitudes catalog _ = []
 
--- the first of them that is 2^63 or more
+-- the least magnitude that is too wide
+abbrev pub least_wide : ℕ
+least_wide = 2 ^ 63
+
+-- the first of them that is so wide or wider
 abbrev pub too_wide : Catalog → Statement → Option SetupError
-too_wide catalog statement = option_map TooWide (first (filter (nat_le (2 ^ 63)) (magnitudes catalog statement)))
+too_wide catalog statement = option_map TooWide (first (filter (nat_le least_wide) (magnitudes catalog statement)))
