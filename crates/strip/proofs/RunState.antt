@@ -33,12 +33,16 @@ pub record InRun (most limit : ℕ) (reader : Reading) (left_before left_now : O
   pub in_same : in_now ≡ in_before
   pub out_kept : out_before ≤ out_now
 
+-- what pieces are answered, and then others
+pub replies_split : (stage : Stage) (ps qs : List Piece) → replies stage (ps ++ qs) ≡ replies stage ps ++ replies (stage_after stage ps) qs
+replies_split stage [] qs = refl
+replies_split stage (p ∷ ps) qs =
+    ap (λ text. (step stage p).text ++ text) (replies_split (step stage p).stage ps qs)
+    ∙ sym (append_assoc (step stage p).text (replies (step stage p).stage ps) (replies (stage_after (step stage p).stage ps) qs))
+
 -- one piece more
 pub replies-append : (stage : Stage) (ps : List Piece) (p : Piece) → replies stage (ps ++ p ∷ []) ≡ replies stage ps ++ (step (stage_after stage ps) p).text
-replies-append stage [] p = append-nil (step stage p).text
-replies-append stage (q ∷ qs) p =
-    ap (λ text. (step stage q).text ++ text) (replies-append (step stage q).stage qs p)
-    ∙ sym (append_assoc (step stage q).text (replies (step stage q).stage qs) (step (stage_after (step stage q).stage qs) p).text)
+replies-append stage ps p = replies_split stage ps (p ∷ []) ∙ ap (λ text. replies stage ps ++ text) (append-nil (step (stage_after stage ps) p).text)
 
 or_assoc : (a b c : Bool) → (a || (b || c)) ≡ ((a || b) || c)
 or_assoc true b c = refl

@@ -1,5 +1,5 @@
 -- Where nothing waits and nothing runs, the rows that are shown of a table that is kept are those of its query.
-use Rattle.std.proofs.Common.{◌≡◌, ℕ, zero, suc, ◌+◌, ◌<◌, ◌≤◌, Bool, true, false, ◌&&◌, ◌||◌, ◌==◌, cond, List, [], ◌∷◌, ◌++◌, length, Some, None, IfSome, refl, sym, ap, ◌∙◌, subst, append_assoc, arith}
+use Rattle.std.proofs.Common.{◌≡◌, ℕ, zero, suc, ◌+◌, ◌<◌, ◌≤◌, Bool, true, false, ◌&&◌, ◌||◌, ◌==◌, cond, List, [], ◌∷◌, ◌++◌, length, Some, None, IfSome, refl, sym, ap, ◌∙◌, subst, arith}
 use Rattle.std.proofs.Math.Bool.{or-true}
 use Rattle.std.proofs.lemmas.Bool.{eqb-true}
 use Rattle.strip_value.specs.declared.acts.Act.{Act}
@@ -36,6 +36,7 @@ use Rattle.strip.specs.Shown.{IsQuietShow, QuietShowsAreQueries, rows_asked}
 use Rattle.strip.specs.Stages.{IsAtRest, IsSound}
 use Rattle.strip.proofs.AloneLaws.{commit_entry, replied}
 use Rattle.strip.proofs.SoundLaws.{named_below, stages_sound}
+use Rattle.strip.proofs.RunState.{replies_split, stage_after-append}
 
 -- ---- what is asked for is held
 
@@ -172,20 +173,10 @@ module _ (most : ℕ) (before : List Piece) (bytes : List ℕ) (f : Fixed) (past
       ∙ ap (outcome_text f.defs) outcome_here
       ∙ ap rows_text rows_are
 
-replies_split : (stage : Stage) (ps qs : List Piece) → replies stage (ps ++ qs) ≡ replies stage ps ++ replies (stage_after stage ps) qs
-replies_split stage [] qs = refl
-replies_split stage (p ∷ ps) qs =
-    ap (λ text. (step stage p).text ++ text) (replies_split (step stage p).stage ps qs)
-    ∙ sym (append_assoc (step stage p).text (replies (step stage p).stage ps) (replies (stage_after (step stage p).stage ps) qs))
-
-stage_split : (stage : Stage) (ps : List Piece) (p : Piece) → stage_after stage (ps ++ p ∷ []) ≡ (step (stage_after stage ps) p).stage
-stage_split stage [] p = refl
-stage_split stage (q ∷ qs) p = stage_split (step stage q).stage qs p
-
 pub quiet_shows_are_queries : QuietShowsAreQueries
 quiet_shows_are_queries most before bytes after f past id q =
     replies_split (empty most) before (Statement bytes ∷ after)
     ∙ ap (λ stage. replies (empty most) before ++ ((step stage (Statement bytes)).text ++ replies (step stage (Statement bytes)).stage after)) q.stands
     ∙ ap (λ text. replies (empty most) before ++ (text ++ replies (step (running f past) (Statement bytes)).stage after)) (text_is most before bytes f past id q)
     ∙ ap (λ stage. replies (empty most) before ++ (rows_text (rows_asked f past id) ++ replies stage after))
-    (sym (stage_split (empty most) before (Statement bytes) ∙ ap (λ stage. (step stage (Statement bytes)).stage) q.stands))
+    (sym (stage_after-append (empty most) before (Statement bytes) ∙ ap (λ stage. (step stage (Statement bytes)).stage) q.stands))

@@ -107,44 +107,46 @@ fn first_replies(alloc: Global, count: usize) -> Result<Vec<u8>, AllocError> {
     Ok(text)
 }
 
-// Scripts, what they are answered and the status, however the reads and the writes are cut.
+// Scripts, what they are answered, and the status.
+const SCRIPTS: [(&[u8], &[u8], u8); 8] = [
+    (
+        STOCKS,
+        b"ok\nok\ncount 1\ncount 1\nrows 1\n('IBM', 101)\n",
+        0,
+    ),
+    (
+        b"table t (a int, key a); ready; put t (1); put t (1); drop t; show t;",
+        b"ok\nok\ncount 1\ncount 1\nrefused NotBuilt\nrows 1\n(1)\n",
+        1,
+    ),
+    (b"", b"", 0),
+    (b" ;\n;\t", b"", 0),
+    (
+        b"table t (a int, key a); ready; show t",
+        b"ok\nok\nrefused NotBuilt\n",
+        1,
+    ),
+    (
+        b"table t (n int, s text, key s); ready; put t (-1, 'b;''c'); put t (2, 'a'); show t;",
+        b"ok\nok\ncount 1\ncount 1\nrows 2\n(2, 'a')\n(-1, 'b;''c')\n",
+        0,
+    ),
+    (
+        b"show t; ready; put t (1);",
+        b"refused NotBuilt\nrefused NotBuilt\nrefused NotBuilt\n",
+        1,
+    ),
+    (
+        b"table t (id int, g int, v int, key id); derive d as select g, sum(v) as s, count(*) as n from t group by g; maintain d by sum; ready; put t (1, 7, 5); put t (1, 7, 6); show d; start; start; finish 2; show d; finish 1; show d; finish 1;",
+        b"ok\nok\nok\nok\ncount 1\ncount 1\nrows 0\njob 1 keep_d plain due 0 rows 1\njob 2 keep_d plain due 0 rows 2\nfinished 2\nrows 1\n(7, 1, 0)\nfinished 1\nrows 1\n(7, 6, 1)\nrefused NotRunning 1\n",
+        1,
+    ),
+];
+
+// However the reads and the writes are cut.
 #[test]
 fn scripts_are_answered(rt: HostRuntime) -> Result<(), Fail> {
-    let rows: [(&[u8], &[u8], u8); 8] = [
-        (
-            STOCKS,
-            b"ok\nok\ncount 1\ncount 1\nrows 1\n('IBM', 101)\n",
-            0,
-        ),
-        (
-            b"table t (a int, key a); ready; put t (1); put t (1); drop t; show t;",
-            b"ok\nok\ncount 1\ncount 1\nrefused NotBuilt\nrows 1\n(1)\n",
-            1,
-        ),
-        (b"", b"", 0),
-        (b" ;\n;\t", b"", 0),
-        (
-            b"table t (a int, key a); ready; show t",
-            b"ok\nok\nrefused NotBuilt\n",
-            1,
-        ),
-        (
-            b"table t (n int, s text, key s); ready; put t (-1, 'b;''c'); put t (2, 'a'); show t;",
-            b"ok\nok\ncount 1\ncount 1\nrows 2\n(2, 'a')\n(-1, 'b;''c')\n",
-            0,
-        ),
-        (
-            b"show t; ready; put t (1);",
-            b"refused NotBuilt\nrefused NotBuilt\nrefused NotBuilt\n",
-            1,
-        ),
-        (
-            b"table t (id int, g int, v int, key id); derive d as select g, sum(v) as s, count(*) as n from t group by g; maintain d by sum; ready; put t (1, 7, 5); put t (1, 7, 6); show d; start; start; finish 2; show d; finish 1; show d; finish 1;",
-            b"ok\nok\nok\nok\ncount 1\ncount 1\nrows 0\njob 1 keep_d plain due 0 rows 1\njob 2 keep_d plain due 0 rows 2\nfinished 2\nrows 1\n(7, 1, 0)\nfinished 1\nrows 1\n(7, 6, 1)\nrefused NotRunning 1\n",
-            1,
-        ),
-    ];
-    for (text, wanted, status) in rows {
+    for (text, wanted, status) in SCRIPTS {
         for cut in [1u64, 2, 3, 1000] {
             let outside = Outside {
                 read_cut: cut,

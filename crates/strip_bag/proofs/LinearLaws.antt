@@ -172,6 +172,9 @@ times_in_order q (row ∷ rows) =
     let rest = times_in_order q rows in
     omega (arith, ints)
 
+pub order_keeps : (rows : List (List Value)) → bag_of (in_order rows) ≡ bag_of rows
+order_keeps rows = same_counts (bag_of (in_order rows)) (bag_of rows) (bag_rows (in_order rows)) (bag_rows rows) (λ q. count_rows (in_order rows) q ∙ times_in_order q rows ∙ sym (count_rows rows q))
+
 -- the combinations of one entry are its rows
 abbrev pub alone : List (List Value) → List (List (List Value))
 alone rows = map (λ row. row ∷ []) rows
@@ -242,6 +245,25 @@ times_sum m n k = ℤ_ind (λ n. (m +ℤ n) *ℤ k ≡ m *ℤ k +ℤ n *ℤ k) n
         let left : (m +ℤ (neg_ℤ (pos n) +ℤ neg_ℤ (pos 1))) *ℤ k ≡ (m +ℤ neg_ℤ (pos n)) *ℤ k -ℤ k = ap (λ i. i *ℤ k) grouped ∙ times_less (m +ℤ neg_ℤ (pos n)) k in
         let right = times_less (neg_ℤ (pos n)) k in
         omega (arith, ints)
+
+-- a number of each row, as often as the row counts
+abbrev times : (List Value → ℤ) → List Value → ℤ → ℤ
+times of row n = n *ℤ of row
+
+times_adds_up : (of : List Value → ℤ) → AddsUp (times of)
+times_adds_up of row m n = times_sum m n (of row)
+
+-- added up over a list, it is the weight of the list's bag
+sum_weighs : (of : List Value → ℤ) (rows : List (List Value)) → sum_of (map of rows) ≡ weigh (times of) (bag_of rows)
+sum_weighs of [] = refl
+sum_weighs of (row ∷ rows) =
+    let raised = weigh_added (times of) (times_adds_up of) (bag_of rows) row (pos 1) in
+    let rest = sum_weighs of rows in
+    let once : pos 1 *ℤ of row ≡ of row = omega (arith, ints) in
+    omega (arith, ints)
+
+pub sums_by_bag : (of : List Value → ℤ) (one two : List (List Value)) → bag_of one ≡ bag_of two → sum_of (map of one) ≡ sum_of (map of two)
+sums_by_bag of one two same = sum_weighs of one ∙ ap (weigh (times of)) same ∙ sym (sum_weighs of two)
 
 -- what a row with its count adds to the total of a group
 abbrev pub in_total : Test → List Place → List Value → Calc → List Value → ℤ → ℤ

@@ -11,6 +11,7 @@ use Rattle.strip_value.specs.declared.queries.What.TheVariants.{Plain, Sum}
 use Rattle.strip_value.specs.declared.values.Value.{Value}
 use Rattle.strip_value.specs.declared.values.Value.TheVariants.{Int}
 use Rattle.strip_value.specs.Bag.{Counted, added, bag_of, bag_sum, bag_less, times_in}
+use Rattle.strip_value.specs.Query.{in_order}
 use Rattle.strip_bag.specs.Linear.{is_in_group, rows_in_group, selected, sum_in_group, total, total_count, total_value}
 
 abbrev row : ℕ → List Value
@@ -37,6 +38,10 @@ meets_in_zero = refl
 
 pub twice : times_in (row 2 ∷ row 1 ∷ row 2 ∷ []) (row 2) ≡ pos 2
 twice = refl
+
+-- in order they are the same bag
+pub in_order_as_well : bag_of (in_order (row 2 ∷ row 1 ∷ row 2 ∷ [])) ≡ bag_of (row 2 ∷ row 1 ∷ row 2 ∷ [])
+in_order_as_well = refl
 
 -- ---- rows (g, v), of which those with v above 2 are asked for
 

@@ -1,6 +1,7 @@
 -- The laws of bags.
-use Rattle.std.specs.Prelude.{◌≡◌, ◌≢◌, ℤ, ◌+ℤ◌, ◌-ℤ◌, List, ◌++◌}
+use Rattle.std.specs.Prelude.{◌≡◌, ◌≢◌, ℤ, ◌+ℤ◌, ◌-ℤ◌, List, ◌++◌, map}
 use Rattle.strip_value.specs.declared.values.Value.{Value}
+use Rattle.strip_value.specs.Query.{in_order, sum_of}
 use Rattle.strip_value.specs.Bag.{Counted, IsBag, count_in, added, bag_of, times_in, bag_sum, bag_less}
 
 -- after adding, the row's count is raised by the number, and every other row's is as before
@@ -46,3 +47,11 @@ CountsDecide = (one two : List Counted) → IsBag one → IsBag two → ((row : 
 -- the bag of two lists, one after the other, is the sum of their bags
 abbrev pub AppendsAreSums : Type 0
 AppendsAreSums = (one two : List (List Value)) → bag_of (one ++ two) ≡ bag_sum (bag_of one) (bag_of two)
+
+-- the bag of rows doesn't change when they are put in order
+abbrev pub OrderKeepsBags : Type 0
+OrderKeepsBags = (rows : List (List Value)) → bag_of (in_order rows) ≡ bag_of rows
+
+-- lists of one bag have one sum of any number of each row
+abbrev pub SumsFollowBags : Type 0
+SumsFollowBags = (of : List Value → ℤ) (one two : List (List Value)) → bag_of one ≡ bag_of two → sum_of (map of one) ≡ sum_of (map of two)

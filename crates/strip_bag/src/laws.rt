@@ -1,5 +1,5 @@
 //! Laws of bags: the contracts of functions that do nothing. The statements stand in `specs/Laws.antt` and, of queries, in `specs/Linear.antt`.
-ghost use Rattle.strip_bag.specs.Laws.{AddingRaises, AddingKeepsBags, RowsCount, BagsOfRows, SumsCount, SumsAreBags, DifferencesCount, DifferencesAreBags, AppendsCount, CountsDecide, AppendsAreSums};
+ghost use Rattle.strip_bag.specs.Laws.{AddingRaises, AddingKeepsBags, RowsCount, BagsOfRows, SumsCount, SumsAreBags, DifferencesCount, DifferencesAreBags, AppendsCount, CountsDecide, AppendsAreSums, OrderKeepsBags, SumsFollowBags};
 ghost use Rattle.strip_bag.specs.Linear.{AnswersAreSelected, GroupedAnswersAreTotals, GroupingIsLinear, GroupsAreTotals, OneEntryIsChosen, SelectingIsLinear, TotalsFollow};
 
 /// Adding raises the count of the row and of no other.
@@ -35,6 +35,12 @@ pub fn appends_count()
 /// Bags in which each row has one count are one bag.
 pub fn counts_decide()
     ensures { CountsDecide }
+{}
+
+/// The sum of a number of each row follows from the bag of the rows alone, and so not from their order.
+pub fn sums_follow_bags()
+    ensures order { OrderKeepsBags }
+    ensures sums { SumsFollowBags }
 {}
 
 /// Selecting rows by a filter, and items of them, is linear; the answer to a query over one entry, without groups, is what is

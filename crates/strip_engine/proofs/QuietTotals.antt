@@ -25,6 +25,7 @@ use Rattle.strip_value.specs.Query.{in_order, number_of, put_in_order, rows_at, 
 use Rattle.strip_value.specs.Table.{Keyed, Rises, column_of, has_key, key_of, put_between, row_at, with_row}
 use Rattle.strip_value.proofs.KeyedLaws.{Split, below_found, puts_there, row_at_found, row_at_gap, split_of, with_row_found, with_row_gap}
 use Rattle.strip_value.proofs.Lists.{all_append, all_at}
+use Rattle.strip_bag.proofs.LinearLaws.{order_keeps, sums_by_bag}
 use Rattle.strip_meaning.specs.Effect.{Effect, done, effect, no_table, put_shift, refusal, run, table_at, unless}
 use Rattle.strip_meaning.specs.Sums.{plus, sums_at}
 use Rattle.strip_meaning.specs.Sums as sums
@@ -55,19 +56,9 @@ pub total_append : (of : List Value → ℤ) (one two : List (List Value)) → t
 total_append of [] two = omega (arith, ints)
 total_append of (row ∷ one) two = let rest = total_append of one two in omega (arith, ints)
 
-total_put : (of : List Value → ℤ) (row : List Value) (rows : List (List Value)) → total of (put_in_order row rows) ≡ of row +ℤ total of rows
-total_put of row [] = refl
-total_put of row (first ∷ rows) = by_order (row_cmp row first) (total_put of row rows)
-  where
-    by_order : (o : Ordering) → total of (put_in_order row rows) ≡ of row +ℤ total of rows → total of (put_between o row first rows (put_in_order row rows)) ≡ of row +ℤ (of first +ℤ total of rows)
-    by_order Less rest = refl
-    by_order Equal rest = refl
-    by_order Greater rest = omega (arith, ints)
-
 -- it doesn't depend on their order
 total_in_order : (of : List Value → ℤ) (rows : List (List Value)) → total of (in_order rows) ≡ total of rows
-total_in_order of [] = refl
-total_in_order of (row ∷ rows) = total_put of row (in_order rows) ∙ ap (λ n. of row +ℤ n) (total_in_order of rows)
+total_in_order of rows = sums_by_bag of (in_order rows) rows (order_keeps rows)
 
 -- ---- what changes add
 
