@@ -1,5 +1,5 @@
 ghost use Rattle.std.specs.Prelude.{◌≡◌, ◌+◌, ◌*◌};
-ghost use Rattle.strip_value.specs.Bounds.{IsNumeric, capped, column_kind, kind_magnitude, magnitude_of};
+ghost use Rattle.strip_value.specs.Bounds.{capped, column_kind, kind_magnitude, magnitude_of};
 
 use strip_value::{Calc, Kind, Kinds};
 
@@ -7,9 +7,9 @@ use strip_value::{Calc, Kind, Kinds};
 const CAP: u128 = 1 << 127;
 
 /// How far from 0 the number can be that an expression computes from rows of these kinds: the static bound by which a
-/// catalog accepts it. A bound above 2^127 counts as 2^127. Takes no memory.
+/// catalog accepts it. A bound above 2^127 counts as 2^127. A text has the bound 0, and a column that isn't there counts as
+/// one. Takes no memory.
 pub fn magnitude(calc: &Calc, kinds: &Kinds) -> u128
-    requires { IsNumeric kinds.now calc.now }
     ensures { result ≡ magnitude_of kinds.now calc.now }
 {
     match calc {

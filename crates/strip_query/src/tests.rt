@@ -1,5 +1,4 @@
 ghost use Rattle.std.specs.Prelude.{◌≡◌, IfOk};
-ghost use Rattle.strip_value.specs.Bounds.{IsNumeric};
 ghost use Rattle.strip_value.specs.Trees.{Add, Mul, Sub};
 ghost use Rattle.strip_query.specs.Examples.{kinds};
 
@@ -46,9 +45,7 @@ fn mul(alloc: Global, left: Calc, right: Calc) -> Result<Calc, AllocError>
     Ok(Calc::Mul(Boxed::new(alloc, left)?, Boxed::new(alloc, right)?))
 }
 
-fn check(rt: &impl Abort, calc: Calc, kinds: &Kinds, bound: u128)
-    requires { IsNumeric kinds.now calc }
-{
+fn check(rt: &impl Abort, calc: Calc, kinds: &Kinds, bound: u128) {
     assert_eq!(rt; magnitude(&calc, kinds), bound);
 }
 
