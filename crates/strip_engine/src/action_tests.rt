@@ -1,12 +1,9 @@
 //! What rules and actions bring, with a base table and a derived table that is kept.
 ghost use Rattle.std.specs.Prelude.{true, ◌≡◌, ◌∷◌, ◌≤◌, ◌^◌, [], length, IfOk, OnOk};
 ghost use Rattle.strip_engine.specs.ActionTests.{
-  EndsAs,
   Gives,
   IsIdle,
   IsInOrder,
-  IsNext,
-  KeepsJobs,
   int_columns,
   sums_of_groups,
 };
@@ -143,7 +140,6 @@ fn open(engine: &mut Engine) -> Result<u64, BeginError>
     requires { IsIdle engine.old }
     ensures alone { IfOk result (λ session. live (past engine.new) ≡ record { session = session; caller = 7 } ∷ []) }
     ensures tables { OnOk result (length engine.new.defs ≡ 2) }
-    ensures jobs { OnOk result (KeepsJobs engine.old engine.new) }
 {
     engine.begin(7, &[Id(0)], &[Id(1)])
 }
@@ -173,7 +169,6 @@ fn does(
     requires names { Names 2 act.now }
     ensures live { OnOk result (live (past engine.new) ≡ live (past engine.old)) }
     ensures tables { OnOk result (length engine.new.defs ≡ 2) }
-    ensures jobs { OnOk result (KeepsJobs engine.old engine.new) }
 {
     let reply = engine.act(session, act)?;
     let text = reply_text(alloc, engine.catalog().defs(), &reply)?;
@@ -186,7 +181,6 @@ fn drop_session(engine: &mut Engine, session: u64) -> Result<(), NoSession>
     requires alone { live (past engine.old) ≡ record { session = session; caller = 7 } ∷ [] }
     requires tables { length engine.old.defs ≡ 2 }
     ensures idle { OnOk result (IsIdle engine.new) }
-    ensures jobs { OnOk result (KeepsJobs engine.old engine.new) }
 {
     engine.undo(session)
 }
@@ -224,8 +218,7 @@ fn puts(
 /// Appends the rows of a table, shown in a transaction of its own.
 fn shows(alloc: Global, engine: &mut Engine, table: u32, said: &mut Vec<u8>) -> Result<(), Fail>
     requires { IsIdle engine.old }
-    ensures idle { OnOk result (IsIdle engine.new) }
-    ensures jobs { OnOk result (KeepsJobs engine.old engine.new) }
+    ensures { OnOk result (IsIdle engine.new) }
 {
     let act = Act::Show {
         table: Id(table.min(1)),
@@ -247,7 +240,7 @@ fn counts(alloc: Global, engine: &Engine, said: &mut Vec<u8>) -> Result<(), Fail
 fn take(engine: &mut Engine, caller: u32, moment: u64) -> Result<Taken, AllocError>
     requires { IsIdle engine.old }
     ensures idle { OnOk result (IsIdle engine.new) }
-    ensures given { IfOk result (Gives engine.old engine.new) }
+    ensures given { IfOk result (Gives engine.new) }
 {
     engine.start(caller, moment)
 }
@@ -277,7 +270,7 @@ fn starts(
 ) -> Result<Done, Fail>
     requires { IsIdle engine.old }
     ensures idle { OnOk result (IsIdle engine.new) }
-    ensures next { IfOk result (IsNext engine.old engine.new) }
+    ensures next { IfOk result (IsInOrder engine.new) }
 {
     let taken = take(engine, caller, moment)?;
     let Taken::Job(job) = taken else {
@@ -291,24 +284,9 @@ fn starts(
 fn end(engine: &mut Engine, done: Done) -> Result<(), FinishFault>
     requires idle { IsIdle engine.old }
     requires content { IsInOrder engine.old done }
-    ensures idle { IsIdle engine.new }
-    ensures jobs { KeepsJobs engine.old engine.new }
-    ensures ends { EndsAs done engine.new result }
+    ensures { IsIdle engine.new }
 {
     engine.finish(done)
-}
-
-/// A finish that is refused.
-fn refused(engine: &mut Engine, done: Done) -> Result<FinishFault, Fail>
-    requires idle { IsIdle engine.old }
-    requires content { IsInOrder engine.old done }
-    ensures idle { OnOk result (IsIdle engine.new) }
-    ensures same { IfOk result (λ fault. fault.done ≡ done) }
-{
-    match end(engine, done) {
-        Ok(()) => Err(Fail::new("the job is finished")),
-        Err(fault) => Ok(fault),
-    }
 }
 
 /// Ends a job, and appends the rows of `d` then and the counts.
@@ -316,7 +294,6 @@ fn ends(alloc: Global, engine: &mut Engine, done: Done, said: &mut Vec<u8>) -> R
     requires idle { IsIdle engine.old }
     requires content { IsInOrder engine.old done }
     ensures idle { OnOk result (IsIdle engine.new) }
-    ensures jobs { OnOk result (KeepsJobs engine.old engine.new) }
 {
     end(engine, done)?;
     shows(alloc, engine, 1, said)?;
@@ -324,119 +301,20 @@ fn ends(alloc: Global, engine: &mut Engine, done: Done, said: &mut Vec<u8>) -> R
     Ok(())
 }
 
-/// Starts no action, since none is pending.
-fn none_is_next(engine: &mut Engine) -> Result<(), Fail>
-    requires { IsIdle engine.old }
-    ensures idle { OnOk result (IsIdle engine.new) }
-    ensures jobs { OnOk result (KeepsJobs engine.old engine.new) }
-{
-    let taken = take(engine, 8, 9)?;
-    match taken {
-        Taken::Empty => Ok(()),
-        _ => Err(Fail::new("an action is pending")),
-    }
-}
-
-// A row comes and is replaced; the second action ends before the first.
-const IN_ANY_ORDER: &str = "count 1
+// A row is bound; its action is started, worked, worked again, and finished.
+const ONE_ACTION: &str = "count 1
 Fired { firings: 1, rows: 1 }
-count 1
-Fired { firings: 1, rows: 2 }
-Counts { pending: 2, running: 0, rows: 3 }
+Counts { pending: 1, running: 0, rows: 1 }
 job 1 of 8: 0 Plain { place: 2, rule: 0 } due 3 rows 1
-job 2 of 9: 0 Plain { place: 5, rule: 0 } due 5 rows 2
-Counts { pending: 0, running: 2, rows: 3 }
-rows 0
-rows 1
-(7, 1, 0)
 Counts { pending: 0, running: 1, rows: 1 }
-rows 1
-(7, 6, 1)
-Counts { pending: 0, running: 0, rows: 0 }
-";
-
-/// A row comes and is replaced: two actions wait.
-fn two_wait(alloc: Global, said: &mut Vec<u8>) -> Result<Engine, Fail>
-    ensures { IfOk result IsIdle }
-{
-    let mut engine = engine(alloc, 9)?;
-    puts(alloc, &mut engine, &[1, 7, 5], 3, said)?;
-    puts(alloc, &mut engine, &[1, 7, 6], 5, said)?;
-    counts(alloc, &engine, said)?;
-    Ok(engine)
-}
-
-/// Ends the second job before the first.
-fn both_end(
-    alloc: Global,
-    engine: &mut Engine,
-    first: Done,
-    second: Done,
-    said: &mut Vec<u8>,
-) -> Result<(), Fail>
-    requires idle { IsIdle engine.old }
-    requires first { IsInOrder engine.old first }
-    requires second { IsInOrder engine.old second }
-{
-    counts(alloc, engine, said)?;
-    shows(alloc, engine, 1, said)?;
-    ends(alloc, engine, second, said)?;
-    ends(alloc, engine, first, said)?;
-    Ok(())
-}
-
-fn in_any_order(alloc: Global, engine: &mut Engine, said: &mut Vec<u8>) -> Result<(), Fail>
-    requires { IsIdle engine.old }
-{
-    let first = starts(alloc, engine, 8, 0, said)?;
-    let second = starts(alloc, engine, 9, 0, said)?;
-    none_is_next(engine)?;
-    both_end(alloc, engine, first, second, said)?;
-    Ok(())
-}
-
-#[test]
-fn actions_end_in_any_order(rt: HostRuntime) -> Result<(), Fail> {
-    let mut said = Vec::new(rt.alloc());
-    let mut engine = two_wait(rt.alloc(), &mut said)?;
-    in_any_order(rt.alloc(), &mut engine, &mut said)?;
-    assert_eq!(rt; str::from_utf8(said.as_slice())?, IN_ANY_ORDER);
-    Ok(())
-}
-
-// The job of another engine has the number of one that was finished here.
-const NOT_RUNNING: &str = "count 1
-Fired { firings: 1, rows: 1 }
-count 1
-Fired { firings: 1, rows: 1 }
 job 1 of 8: 0 Plain { place: 2, rule: 0 } due 3 rows 1
-job 1 of 9: 0 Plain { place: 2, rule: 0 } due 0 rows 1
-NotRunning { number: 1 }
 rows 1
 (7, 5, 1)
 Counts { pending: 0, running: 0, rows: 0 }
-job 1 of 9: 0 Plain { place: 2, rule: 0 } due 0 rows 1
-rows 1
-(8, 4, 1)
-Counts { pending: 0, running: 0, rows: 0 }
 ";
 
-/// An action waits that has a row of its own.
-fn one_waits(
-    alloc: Global,
-    numbers: &[i128],
-    moment: u64,
-    said: &mut Vec<u8>,
-) -> Result<Engine, Fail>
-    ensures { IfOk result IsIdle }
-{
-    let mut engine = engine(alloc, 9)?;
-    puts(alloc, &mut engine, numbers, moment, said)?;
-    Ok(engine)
-}
-
-/// Works again the job that came back, and ends it.
-fn ends_later(
+/// Takes the job back from what was worked, works it again, and ends it.
+fn ends_again(
     alloc: Global,
     engine: &mut Engine,
     done: Done,
@@ -451,70 +329,20 @@ fn ends_later(
     ends(alloc, engine, done, said)
 }
 
-/// Offers the job of another engine, and appends why it comes back.
-fn comes_back(
-    alloc: Global,
-    engine: &mut Engine,
-    other: Done,
-    said: &mut Vec<u8>,
-) -> Result<Done, Fail>
-    requires idle { IsIdle engine.old }
-    requires content { IsInOrder engine.old other }
-    ensures idle { OnOk result (IsIdle engine.new) }
-    ensures same { IfOk result (λ done. done ≡ other) }
-{
-    let FinishFault { why, done } = refused(engine, other)?;
-    let text = format!(in alloc; "{why:?}\n")?;
-    said.extend_from_slice(text.as_bytes())?;
-    Ok(done)
-}
-
-/// Fails where the two jobs have different numbers.
-fn have_one_number(first: &Done, second: &Done) -> Result<(), Fail>
-    ensures { OnOk result (first.now.number ≡ second.now.number) }
-{
-    if first.number() == second.number() {
-        Ok(())
-    } else {
-        Err(Fail::new("other numbers"))
-    }
-}
-
-/// Ends a job here, offers the one of the same number from there, and ends that one there.
-fn offer_both(
-    alloc: Global,
-    here: &mut Engine,
-    there: &mut Engine,
-    done: Done,
-    other: Done,
-    said: &mut Vec<u8>,
-) -> Result<(), Fail>
-    requires here { IsIdle here.old }
-    requires there { IsIdle there.old }
-    requires done { IsInOrder here.old done }
-    requires other { IsInOrder there.old other }
-{
-    have_one_number(&done, &other)?;
-    end(here, done)?;
-    let other = comes_back(alloc, here, other, said)?;
-    shows(alloc, here, 1, said)?;
-    counts(alloc, here, said)?;
-    ends_later(alloc, there, other, said)
-}
-
-fn not_running(alloc: Global, said: &mut Vec<u8>) -> Result<(), Fail> {
-    let mut here = one_waits(alloc, &[1, 7, 5], 3, said)?;
-    let mut there = one_waits(alloc, &[2, 8, 4], 0, said)?;
-    let done = starts(alloc, &mut here, 8, 0, said)?;
-    let other = starts(alloc, &mut there, 9, 1, said)?;
-    offer_both(alloc, &mut here, &mut there, done, other, said)
+fn one_action(alloc: Global, said: &mut Vec<u8>) -> Result<(), Fail> {
+    let mut engine = engine(alloc, 9)?;
+    puts(alloc, &mut engine, &[1, 7, 5], 3, said)?;
+    counts(alloc, &engine, said)?;
+    let done = starts(alloc, &mut engine, 8, 0, said)?;
+    counts(alloc, &engine, said)?;
+    ends_again(alloc, &mut engine, done, said)
 }
 
 #[test]
-fn a_job_that_is_not_running_comes_back(rt: HostRuntime) -> Result<(), Fail> {
+fn an_action_is_started_worked_and_finished(rt: HostRuntime) -> Result<(), Fail> {
     let mut said = Vec::new(rt.alloc());
-    not_running(rt.alloc(), &mut said)?;
-    assert_eq!(rt; str::from_utf8(said.as_slice())?, NOT_RUNNING);
+    one_action(rt.alloc(), &mut said)?;
+    assert_eq!(rt; str::from_utf8(said.as_slice())?, ONE_ACTION);
     Ok(())
 }
 
