@@ -164,6 +164,69 @@ fn difference_of_totals(
     Ok((new.0.wrapping_sub(old.0), new.1.wrapping_sub(old.1)))
 }
 
+fn selected(rt: &impl Abort, alloc: Global, counts: [i128; 4]) -> Result<(i128, i128), AllocError> {
+    let bag = bag_with(rt, alloc, counts)?;
+    let mut selected = Bag::new(alloc);
+    select_into(rt, alloc, &bag, &mut selected)?;
+    groups(alloc, &selected)
+}
+
+fn selected_of_difference(
+    rt: &impl Abort,
+    alloc: Global,
+    one: [i128; 4],
+    two: [i128; 4],
+) -> Result<(i128, i128), AllocError> {
+    selected_of_sum(rt, alloc, one, two.map(i128::wrapping_neg))
+}
+
+fn difference_of_selected(
+    rt: &impl Abort,
+    alloc: Global,
+    one: [i128; 4],
+    two: [i128; 4],
+) -> Result<(i128, i128), AllocError> {
+    let (one, two) = (selected(rt, alloc, one)?, selected(rt, alloc, two)?);
+    Ok((one.0.wrapping_sub(two.0), one.1.wrapping_sub(two.1)))
+}
+
+fn totals_of_sum(
+    rt: &impl Abort,
+    alloc: Global,
+    one: [i128; 4],
+    two: [i128; 4],
+) -> Result<(i128, i128), AllocError> {
+    totals_of_difference(rt, alloc, one.map(i128::wrapping_neg), two)
+}
+
+fn sum_of_totals(
+    rt: &impl Abort,
+    alloc: Global,
+    one: [i128; 4],
+    two: [i128; 4],
+) -> Result<(i128, i128), AllocError> {
+    let (one, two) = (bag_with(rt, alloc, one)?, bag_with(rt, alloc, two)?);
+    let (one, two) = (totals(alloc, &one)?, totals(alloc, &two)?);
+    Ok((one.0.wrapping_add(two.0), one.1.wrapping_add(two.1)))
+}
+
+#[test]
+fn differences_are_selected_and_sums_are_totalled(rt: HostRuntime) -> Result<(), Fail> {
+    let alloc = rt.alloc();
+    let cases = [
+        ([1, 0, 2, 1], [-1, 3, 0, 4]),
+        ([-3, 2, 1, 0], [3, -2, -1, 5]),
+        ([0, 0, 0, 7], [0, 0, 0, -2]),
+    ];
+    for (one, two) in cases {
+        let selected = selected_of_difference(&rt, alloc, one, two)?;
+        assert_eq!(rt; selected, difference_of_selected(&rt, alloc, one, two)?);
+        let totals = totals_of_sum(&rt, alloc, one, two)?;
+        assert_eq!(rt; totals, sum_of_totals(&rt, alloc, one, two)?);
+    }
+    Ok(())
+}
+
 #[test]
 fn selecting_and_totals_are_linear(rt: HostRuntime) -> Result<(), Fail> {
     let alloc = rt.alloc();
