@@ -107,142 +107,151 @@ fn bag_with(rt: &impl Abort, alloc: Global, counts: [i128; 4]) -> Result<Bag, Al
     Ok(bag)
 }
 
-fn groups(alloc: Global, selected: &Bag) -> Result<(i128, i128), AllocError> {
+// What is asked of a bag: the counts of its rows, those of the groups selected from it, and the totals of the groups.
+#[derive(Clone, Copy, Debug)]
+enum Asked {
+    Counts,
+    Selected,
+    Totals,
+}
+
+fn counts(alloc: Global, bag: &Bag) -> Result<[i128; 4], AllocError> {
+    let [one, two, three, four] = PAIRS;
+    Ok([
+        count_of(alloc, bag, one)?,
+        count_of(alloc, bag, two)?,
+        count_of(alloc, bag, three)?,
+        count_of(alloc, bag, four)?,
+    ])
+}
+
+fn selected(rt: &impl Abort, alloc: Global, bag: &Bag) -> Result<[i128; 4], AllocError> {
+    let mut selected = Bag::new(alloc);
+    select_into(rt, alloc, bag, &mut selected)?;
     let (one, two) = (row(alloc, 1)?, row(alloc, 2)?);
-    Ok((selected.count(&one), selected.count(&two)))
+    Ok([selected.count(&one), selected.count(&two), 0, 0])
 }
 
-fn totals(alloc: Global, bag: &Bag) -> Result<(i128, i128), AllocError> {
-    Ok((total(alloc, bag, 1)?, total(alloc, bag, 2)?))
-}
-
-fn selected_of_sum(
+fn answer(
     rt: &impl Abort,
     alloc: Global,
+    asked: Asked,
+    bag: &Bag,
+) -> Result<[i128; 4], AllocError> {
+    match asked {
+        Asked::Counts => counts(alloc, bag),
+        Asked::Selected => selected(rt, alloc, bag),
+        Asked::Totals => Ok([total(alloc, bag, 1)?, total(alloc, bag, 2)?, 0, 0]),
+    }
+}
+
+fn plus(one: [i128; 4], two: [i128; 4]) -> [i128; 4] {
+    let ([a, b, c, d], [e, f, g, h]) = (one, two);
+    [
+        a.wrapping_add(e),
+        b.wrapping_add(f),
+        c.wrapping_add(g),
+        d.wrapping_add(h),
+    ]
+}
+
+fn negative(counts: [i128; 4]) -> [i128; 4] {
+    counts.map(i128::wrapping_neg)
+}
+
+// The sum of two bags is asked, or each, and the answers added.
+fn is_linear(
+    rt: &impl Abort,
+    alloc: Global,
+    asked: Asked,
     one: [i128; 4],
     two: [i128; 4],
-) -> Result<(i128, i128), AllocError> {
+) -> Result<(), AllocError> {
     let mut sum = bag_with(rt, alloc, one)?;
     add_all(rt, alloc, &mut sum, two)?;
-    let mut selected = Bag::new(alloc);
-    select_into(rt, alloc, &sum, &mut selected)?;
-    groups(alloc, &selected)
-}
-
-fn sum_of_selected(
-    rt: &impl Abort,
-    alloc: Global,
-    one: [i128; 4],
-    two: [i128; 4],
-) -> Result<(i128, i128), AllocError> {
-    let (one, two) = (bag_with(rt, alloc, one)?, bag_with(rt, alloc, two)?);
-    let mut selected = Bag::new(alloc);
-    select_into(rt, alloc, &one, &mut selected)?;
-    select_into(rt, alloc, &two, &mut selected)?;
-    groups(alloc, &selected)
-}
-
-fn totals_of_difference(
-    rt: &impl Abort,
-    alloc: Global,
-    before: [i128; 4],
-    after: [i128; 4],
-) -> Result<(i128, i128), AllocError> {
-    let mut difference = bag_with(rt, alloc, after)?;
-    add_all(rt, alloc, &mut difference, before.map(i128::wrapping_neg))?;
-    totals(alloc, &difference)
-}
-
-fn difference_of_totals(
-    rt: &impl Abort,
-    alloc: Global,
-    before: [i128; 4],
-    after: [i128; 4],
-) -> Result<(i128, i128), AllocError> {
-    let (before, after) = (bag_with(rt, alloc, before)?, bag_with(rt, alloc, after)?);
-    let (old, new) = (totals(alloc, &before)?, totals(alloc, &after)?);
-    Ok((new.0.wrapping_sub(old.0), new.1.wrapping_sub(old.1)))
-}
-
-fn selected(rt: &impl Abort, alloc: Global, counts: [i128; 4]) -> Result<(i128, i128), AllocError> {
-    let bag = bag_with(rt, alloc, counts)?;
-    let mut selected = Bag::new(alloc);
-    select_into(rt, alloc, &bag, &mut selected)?;
-    groups(alloc, &selected)
-}
-
-fn selected_of_difference(
-    rt: &impl Abort,
-    alloc: Global,
-    one: [i128; 4],
-    two: [i128; 4],
-) -> Result<(i128, i128), AllocError> {
-    selected_of_sum(rt, alloc, one, two.map(i128::wrapping_neg))
-}
-
-fn difference_of_selected(
-    rt: &impl Abort,
-    alloc: Global,
-    one: [i128; 4],
-    two: [i128; 4],
-) -> Result<(i128, i128), AllocError> {
-    let (one, two) = (selected(rt, alloc, one)?, selected(rt, alloc, two)?);
-    Ok((one.0.wrapping_sub(two.0), one.1.wrapping_sub(two.1)))
-}
-
-fn totals_of_sum(
-    rt: &impl Abort,
-    alloc: Global,
-    one: [i128; 4],
-    two: [i128; 4],
-) -> Result<(i128, i128), AllocError> {
-    totals_of_difference(rt, alloc, one.map(i128::wrapping_neg), two)
-}
-
-fn sum_of_totals(
-    rt: &impl Abort,
-    alloc: Global,
-    one: [i128; 4],
-    two: [i128; 4],
-) -> Result<(i128, i128), AllocError> {
-    let (one, two) = (bag_with(rt, alloc, one)?, bag_with(rt, alloc, two)?);
-    let (one, two) = (totals(alloc, &one)?, totals(alloc, &two)?);
-    Ok((one.0.wrapping_add(two.0), one.1.wrapping_add(two.1)))
+    let first = answer(rt, alloc, asked, &bag_with(rt, alloc, one)?)?;
+    let second = answer(rt, alloc, asked, &bag_with(rt, alloc, two)?)?;
+    assert_eq!(rt;
+        answer(rt, alloc, asked, &sum)?,
+        plus(first, second),
+        "{asked:?}"
+    );
+    let mut difference = bag_with(rt, alloc, one)?;
+    add_all(rt, alloc, &mut difference, negative(two))?;
+    assert_eq!(rt;
+        answer(rt, alloc, asked, &difference)?,
+        plus(first, negative(second)),
+        "{asked:?}"
+    );
+    Ok(())
 }
 
 #[test]
-fn differences_are_selected_and_sums_are_totalled(rt: HostRuntime) -> Result<(), Fail> {
+fn answers_are_linear(rt: HostRuntime) -> Result<(), Fail> {
     let alloc = rt.alloc();
     let cases = [
         ([1, 0, 2, 1], [-1, 3, 0, 4]),
         ([-3, 2, 1, 0], [3, -2, -1, 5]),
         ([0, 0, 0, 7], [0, 0, 0, -2]),
+        ([0, 0, 0, 0], [-2, 1, 4, 3]),
     ];
     for (one, two) in cases {
-        let selected = selected_of_difference(&rt, alloc, one, two)?;
-        assert_eq!(rt; selected, difference_of_selected(&rt, alloc, one, two)?);
-        let totals = totals_of_sum(&rt, alloc, one, two)?;
-        assert_eq!(rt; totals, sum_of_totals(&rt, alloc, one, two)?);
+        for asked in [Asked::Counts, Asked::Selected, Asked::Totals] {
+            is_linear(&rt, alloc, asked, one, two)?;
+        }
     }
     Ok(())
 }
 
 #[test]
-fn selecting_and_totals_are_linear(rt: HostRuntime) -> Result<(), Fail> {
+fn answers_are_those_worked_out_by_hand(rt: HostRuntime) -> Result<(), Fail> {
     let alloc = rt.alloc();
-    // the counts of `PAIRS` in two bags, the groups selected from their sum, and the totals of the
-    // second less the first
     let cases = [
-        ([1, 0, 2, 1], [-1, 3, 0, 4], (3, 2), (8, -10)),
-        ([-3, 2, 1, 0], [3, -2, -1, 5], (0, 0), (6, -10)),
-        ([0, 0, 0, 7], [0, 0, 0, -2], (0, 0), (0, 0)),
-        ([0, 0, 0, 0], [-2, 1, 4, 3], (-1, 4), (-4, 20)),
+        ([0, 3, 2, 5], [3, 2, 0, 0], [18, 10, 0, 0]),
+        ([-2, 3, -2, 3], [1, -2, 0, 0], [8, -10, 0, 0]),
+        ([0, 0, 0, 5], [0, 0, 0, 0], [0, 0, 0, 0]),
+        ([-2, 1, 4, 3], [-1, 4, 0, 0], [-4, 20, 0, 0]),
     ];
-    for (one, two, selected, totals) in cases {
-        assert_eq!(rt; selected_of_sum(&rt, alloc, one, two)?, selected);
-        assert_eq!(rt; sum_of_selected(&rt, alloc, one, two)?, selected);
-        assert_eq!(rt; totals_of_difference(&rt, alloc, one, two)?, totals);
-        assert_eq!(rt; difference_of_totals(&rt, alloc, one, two)?, totals);
+    for (counted, groups, totals) in cases {
+        let bag = bag_with(&rt, alloc, counted)?;
+        assert_eq!(rt; counts(alloc, &bag)?, counted);
+        assert_eq!(rt; selected(&rt, alloc, &bag)?, groups);
+        assert_eq!(rt; answer(&rt, alloc, Asked::Totals, &bag)?, totals);
     }
+    Ok(())
+}
+
+// Adds each row of a list once.
+fn add_list(
+    rt: &impl Abort,
+    alloc: Global,
+    bag: &mut Bag,
+    list: [(i128, i128); 3],
+) -> Result<(), AllocError> {
+    for at in list {
+        add(rt, bag, &pair(alloc, at.0, at.1)?, 1)?;
+    }
+    Ok(())
+}
+
+#[test]
+fn lists_count_one_after_the_other_in_any_order(rt: HostRuntime) -> Result<(), Fail> {
+    let alloc = rt.alloc();
+    let [a, b, c, d] = PAIRS;
+    let (mut one, mut two) = (Bag::new(alloc), Bag::new(alloc));
+    add_list(&rt, alloc, &mut one, [c, a, c])?;
+    add_list(&rt, alloc, &mut two, [d, c, b])?;
+    let (mut both, mut turned) = (Bag::new(alloc), Bag::new(alloc));
+    add_list(&rt, alloc, &mut both, [c, a, c])?;
+    add_list(&rt, alloc, &mut both, [d, c, b])?;
+    add_list(&rt, alloc, &mut turned, [b, c, d])?;
+    add_list(&rt, alloc, &mut turned, [c, a, c])?;
+    assert_eq!(rt; counts(alloc, &both)?, [1, 1, 3, 1]);
+    assert_eq!(rt;
+        counts(alloc, &both)?,
+        plus(counts(alloc, &one)?, counts(alloc, &two)?)
+    );
+    assert_eq!(rt; counts(alloc, &turned)?, counts(alloc, &both)?);
+    assert_eq!(rt; total(alloc, &turned, 1)?, total(alloc, &both, 1)?);
     Ok(())
 }
