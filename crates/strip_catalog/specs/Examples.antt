@@ -13,12 +13,12 @@ use Rattle.strip_ast.specs.declared.rules.EventTree.TheVariants as event
 use Rattle.strip_ast.specs.declared.rules.Manner.{Manner}
 use Rattle.strip_ast.specs.declared.statements.Statement.{Statement}
 use Rattle.strip_ast.specs.declared.statements.Statement.TheVariants as st
-use Rattle.strip_catalog.specs.declared.errors.LimitKind.TheVariants as limit
-use Rattle.strip_catalog.specs.declared.errors.SetupError.TheVariants.{Exists, Unknown, Limit, KindMismatch, TooWide, NoKey, ReadsDerived, BoundDiffers, NotGrouped}
-use Rattle.strip_catalog.specs.Adds.{with_statement}
-use Rattle.strip_catalog.specs.Catalog.{Catalog, nothing}
+use Rattle.strip_setup.specs.declared.errors.LimitKind.TheVariants as limit
+use Rattle.strip_setup.specs.declared.errors.SetupError.TheVariants.{Exists, Unknown, Limit, KindMismatch, TooWide, NoKey, ReadsDerived, BoundDiffers, NotGrouped}
+use Rattle.strip_setup.specs.Adds.{with_statement}
+use Rattle.strip_setup.specs.Catalog.{Catalog, nothing}
 use Rattle.strip_catalog.specs.Refusals.{refusal}
-use Rattle.strip_catalog.specs.Trees.{Two}
+use Rattle.strip_setup.specs.Trees.{Two}
 use Rattle.strip_catalog.specs.Writing.{bare, dotted, item, sum_as, count_as, table, table_as, moved_as, select, grouped, grouped_where, column, column_of, int, big, txt, make_table, derive, redo, function, binds, plainly, unique, rule}
 
 -- ---- parts and what is derived from them

@@ -1,19 +1,8 @@
--- What may be declared, and what it then stands for.
-pub mod Catalog
-pub mod Trees
-pub mod Queries
-pub mod Resolve
-pub mod Parts
-pub mod Exists
-pub mod Unknown
-pub mod Limits
-pub mod Needs
-pub mod Mismatch
-pub mod Width
-pub mod Bound
-pub mod Grouped
+-- The catalog: what accepted statements declare, and what its calls do.
 pub mod Refusals
-pub mod Adds
+pub mod Accepted
+pub mod Laws
+pub mod Calls
 pub mod Writing
 pub mod Examples
 pub mod TableExamples

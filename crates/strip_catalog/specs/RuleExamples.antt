@@ -18,14 +18,14 @@ use Rattle.strip_ast.specs.declared.rules.Manner.{Manner}
 use Rattle.strip_ast.specs.declared.rules.StepTree.{StepTree}
 use Rattle.strip_ast.specs.declared.statements.Statement.{Statement}
 use Rattle.strip_ast.specs.declared.statements.Statement.TheVariants as st
-use Rattle.strip_catalog.specs.declared.errors.LimitKind.TheVariants as limit
-use Rattle.strip_catalog.specs.declared.errors.SetupError.{SetupError}
-use Rattle.strip_catalog.specs.declared.errors.SetupError.TheVariants.{Exists, Unknown, Limit, KindMismatch, TooWide, ReadsDerived, NotBound, BoundDiffers, NotGrouped}
-use Rattle.strip_catalog.specs.Adds.{with_statement}
-use Rattle.strip_catalog.specs.Catalog.{Catalog}
+use Rattle.strip_setup.specs.declared.errors.LimitKind.TheVariants as limit
+use Rattle.strip_setup.specs.declared.errors.SetupError.{SetupError}
+use Rattle.strip_setup.specs.declared.errors.SetupError.TheVariants.{Exists, Unknown, Limit, KindMismatch, TooWide, ReadsDerived, NotBound, BoundDiffers, NotGrouped}
+use Rattle.strip_setup.specs.Adds.{with_statement}
+use Rattle.strip_setup.specs.Catalog.{Catalog}
 use Rattle.strip_catalog.specs.Examples.{declared, parts_def, comps_def, f_declared}
 use Rattle.strip_catalog.specs.Refusals.{refusal}
-use Rattle.strip_catalog.specs.Trees.{Two}
+use Rattle.strip_setup.specs.Trees.{Two}
 use Rattle.strip_catalog.specs.Writing.{bare, dotted, number, item, item_as, sum_as, count_as, table, before, moved, moved_as, select, select_where, column, grouped, int, big, txt, make_table, add, redo, function, asks, binds, plainly, unique_on, after, updated, rule}
 
 -- ---- functions

@@ -14,16 +14,16 @@ use Rattle.strip_ast.specs.declared.queries.ItemTree.{ItemTree}
 use Rattle.strip_ast.specs.declared.queries.Origin.TheVariants as origin
 use Rattle.strip_ast.specs.declared.queries.QueryTree.{QueryTree}
 use Rattle.strip_ast.specs.declared.statements.Statement.TheVariants as st
-use Rattle.strip_catalog.specs.declared.errors.LimitKind.TheVariants as limit
-use Rattle.strip_catalog.specs.declared.errors.SetupError.{SetupError}
-use Rattle.strip_catalog.specs.declared.errors.SetupError.TheVariants.{Closed, Exists, Unknown, Limit, KindMismatch, TooWide, ReadsDerived, NotGrouped}
-use Rattle.strip_catalog.specs.Adds.{with_statement}
-use Rattle.strip_catalog.specs.Catalog.{Catalog, nothing, columns_of, table_named}
+use Rattle.strip_setup.specs.declared.errors.LimitKind.TheVariants as limit
+use Rattle.strip_setup.specs.declared.errors.SetupError.{SetupError}
+use Rattle.strip_setup.specs.declared.errors.SetupError.TheVariants.{Closed, Exists, Unknown, Limit, KindMismatch, TooWide, ReadsDerived, NotGrouped}
+use Rattle.strip_setup.specs.Adds.{with_statement}
+use Rattle.strip_setup.specs.Catalog.{Catalog, nothing, columns_of, table_named}
 use Rattle.strip_catalog.specs.Examples.{parts, comps, declared}
-use Rattle.strip_catalog.specs.Queries.{item_names, entries_of, own_entry, filter_of}
+use Rattle.strip_setup.specs.Queries.{item_names, entries_of, own_entry, filter_of}
 use Rattle.strip_catalog.specs.Refusals.{refusal}
-use Rattle.strip_catalog.specs.Resolve.{outside_rules, sets_of}
-use Rattle.strip_catalog.specs.Trees.{Two, Not}
+use Rattle.strip_setup.specs.Resolve.{outside_rules, sets_of}
+use Rattle.strip_setup.specs.Trees.{Two, Not}
 use Rattle.strip_catalog.specs.Writing.{bare, dotted, number, text, item, item_as, sum_as, count_as, table, table_as, before, moved, select, select_where, grouped, grouped_where, column, column_of, int, txt, names, make_table, derive}
 
 -- why a query is refused that is asked after setup
@@ -134,8 +134,8 @@ pub before_outside : asked (select (item_as (number 1) "a" ∷ []) (before "part
 unfolding refusal with_statement
 before_outside = refl
 
--- select price from before parts: what may not stand there has no columns
-pub column_of_before_outside : asked (select (item (bare "price") ∷ []) (before "parts" ∷ [])) ≡ Some (Unknown (codes "price"))
+-- select price from before parts: its columns are there
+pub column_of_before_outside : asked (select (item (bare "price") ∷ []) (before "parts" ∷ [])) ≡ Some (Unknown (codes "before"))
 unfolding refusal with_statement
 column_of_before_outside = refl
 

@@ -1,9 +1,14 @@
-//! What may be declared: which setup statements are refused, and what their names stand for. Definitions alone, in
-//! `specs/`; there is no code yet.
+//! The catalog: tables, streams, functions and rules as statements of setup declare them.
 #![tactic(auto)]
 
-mod errors;
+mod additions;
+mod catalog;
+pub mod laws;
+mod refusing;
 
-pub use errors::{LimitKind, SetupError};
+pub use catalog::Catalog;
 pub use strip_ast::Statement;
-pub use strip_value::{Function, Name, Query, Rule, Stream, TableDef};
+pub use strip_setup::{LimitKind, SetupError};
+pub use strip_value::{
+    BoundDef, BoundQuery, Event, Function, Id, Name, Query, Rule, Step, Stream, TableDef,
+};

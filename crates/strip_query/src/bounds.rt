@@ -29,7 +29,7 @@ pub fn magnitude(calc: &Calc, kinds: &Kinds) -> u128
 }
 
 /// The kind of an entry's column; one that isn't there counts as a text.
-fn column_kind(kinds: &Kinds, entry: u32, column: u32) -> Kind
+pub fn column_kind(kinds: &Kinds, entry: u32, column: u32) -> Kind
     ensures { result ≡ column_kind kinds.now entry column }
 {
     let Some(columns) = kinds.as_slice().get(entry as usize) else {

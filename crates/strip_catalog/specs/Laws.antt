@@ -1,0 +1,44 @@
+-- What every catalog is.
+use Rattle.std.specs.Prelude.{◌≡◌, ℕ, ◌+◌, ◌*◌, ◌<◌, ◌≤◌, false, List, [], ◌∷◌, Some, get_or, length, map}
+use Rattle.std.specs.List.{AllByRecursion}
+use Rattle.strip_setup.specs.Small.{AreNarrow}
+use Rattle.strip_setup.specs.Catalog.{Catalog, function_number, has_name, table_number}
+use Rattle.strip_setup.specs.Resolve.{no_function}
+use Rattle.strip_catalog.specs.Accepted.{IsDeclared}
+use Rattle.strip_catalog.specs.Calls.{def_at}
+
+-- there are at most 64 tables, streams and functions and 128 rules; a table has at most 16 columns, and a function at most 4
+-- bound tables and 8 more for each rule
+pub record IsSmall (catalog : Catalog) : Type 0 where
+  pub tables : length catalog.tables ≤ 64
+  pub streams : length catalog.streams ≤ 64
+  pub functions : length catalog.functions ≤ 64
+  pub rules : length catalog.rules ≤ 128
+  pub narrow : AreNarrow catalog.tables
+  pub bound : AllByRecursion (λ f. length f.bound ≤ 4 + 8 * length catalog.rules) catalog.functions
+
+abbrev pub CatalogsAreSmall : Type 0
+CatalogsAreSmall = (catalog : Catalog) → IsDeclared catalog → IsSmall catalog
+
+-- no name stands twice
+abbrev pub AreApart : List (List ℕ) → Type 0
+AreApart [] = Unit {0}
+AreApart (name ∷ names) = (has_name names name ≡ false) × AreApart names
+
+-- tables have names of their own, and so have streams, functions and rules: names and numbers are one to one
+pub record HasOwnNames (catalog : Catalog) : Type 0 where
+  pub tables : AreApart (map (λ table. table.name) catalog.tables)
+  pub streams : AreApart (map (λ stream. stream.name) catalog.streams)
+  pub functions : AreApart (map (λ function. function.name) catalog.functions)
+  pub rules : AreApart (map (λ rule. rule.name) catalog.rules)
+
+abbrev pub NamesAreTheirOwn : Type 0
+NamesAreTheirOwn = (catalog : Catalog) → IsDeclared catalog → HasOwnNames catalog
+
+-- the name of each number stands for that number
+pub record NamesItsNumbers (catalog : Catalog) : Type 0 where
+  pub tables : (id : ℕ) → id < length catalog.tables → table_number catalog.tables (def_at catalog.tables id).name ≡ Some id
+  pub functions : (id : ℕ) → id < length catalog.functions → function_number catalog.functions (get_or catalog.functions id no_function).name ≡ Some id
+
+abbrev pub NamesStandForNumbers : Type 0
+NamesStandForNumbers = (catalog : Catalog) → IsDeclared catalog → NamesItsNumbers catalog

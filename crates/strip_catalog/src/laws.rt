@@ -1,0 +1,17 @@
+//! Laws of catalogs: the contracts of functions that do nothing. The statements stand in `specs/Laws.antt`.
+ghost use Rattle.strip_catalog.specs.Laws.{CatalogsAreSmall, NamesAreTheirOwn, NamesStandForNumbers};
+
+/// There are at most 64 tables, streams and functions, and 128 rules; a table has at most 16 columns.
+pub fn catalogs_are_small()
+    ensures { CatalogsAreSmall }
+{}
+
+/// No two tables have one name, and no two streams, functions or rules.
+pub fn names_are_their_own()
+    ensures { NamesAreTheirOwn }
+{}
+
+/// The name of each table stands for the number of that table, and so does the name of each function.
+pub fn names_stand_for_numbers()
+    ensures { NamesStandForNumbers }
+{}

@@ -1,0 +1,7 @@
+use Rattle.std.proofs.Common.{◌≡◌, [], ◌∷◌, drop, flat_map}
+use Rattle.strip_kinds.specs.Walks.{wide_wholes}
+use Rattle.strip_setup.specs.Parts.{value}
+use Rattle.strip_kinds.proofs.width.check_sets.Given as goal
+
+abbrev pub invariant-loop-set : goal.invariant-loop-set
+invariant-loop-set l = flat_map (λ s. wide_wholes l.kinds l.entries (record { expr = s.value; purpose = value } ∷ [])) l.sets ≡ flat_map (λ s. wide_wholes l.kinds l.entries (record { expr = s.value; purpose = value } ∷ [])) (drop l.set-index l.sets)

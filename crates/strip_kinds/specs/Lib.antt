@@ -1,0 +1,6 @@
+-- What contracts of refusals for kinds, for magnitudes and for what rules bind cite.
+pub mod Needs
+pub mod Mismatch
+pub mod Width
+pub mod Bound
+pub mod Walks

@@ -1,0 +1,13 @@
+use Rattle.std.proofs.lemmas.Result.{err_from_is_err_and}
+use Rattle.strip_ast.specs.declared.rules.BoundTree.{BoundTree}
+use Rattle.strip_setup.specs.declared.errors.SetupError.TheVariants.{Unknown}
+use Rattle.strip_names.specs.Unknown.{unknown_in_query}
+use Rattle.strip_setup.proofs.Firsts.{refused_left}
+use Rattle.strip_names.proofs.unknown.check_queries.Goals as goal
+
+pub returns-in_err-unknown_in_query : goal.returns-in_err-unknown_in_query
+returns-in_err-unknown_in_query c =
+    let p = err_from_is_err_and c.from_residual.result c.from_residual.ensures.1 in
+    rw (p.1, p.2)
+    (refused_left Unknown (λ (bound : BoundTree). unknown_in_query c.args.scope.now bound.query)
+    c.args.queries.now c.loop-bound.bound-index c.bound-item.result _ c.loop-bound.invariant c.loop-bound-test.true c.bound-item.is c.in_err-unknown_in_query.ensures)
