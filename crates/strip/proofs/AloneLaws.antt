@@ -117,7 +117,15 @@ module _ (f : Fixed) (past : List Entry) (write read : List ℕ) (one : Act) (no
 pub alone_ends : (f : Fixed) (past : List Entry) (one : Act) → live past ≡ [] → live (done_alone f past one).past ≡ []
 alone_ends f past (act.Put table row) none = none_left f past (table ∷ []) [] (act.Put table row) none
 alone_ends f past (act.Show table) none = none_left f past [] (table ∷ []) (act.Show table) none
+alone_ends f past (act.Insert table rows) none = none_left f past [] [] (act.Insert table rows) none
+alone_ends f past (act.Update table sets filter) none = none_left f past [] [] (act.Update table sets filter) none
+alone_ends f past (act.Delete table filter) none = none_left f past [] [] (act.Delete table filter) none
+alone_ends f past (act.Select query) none = none_left f past [] [] (act.Select query) none
 
 pub alone_legal : (f : Fixed) (past : List Entry) (one : Act) → live past ≡ [] → Names (length f.defs) one → Legal f past → Legal f (done_alone f past one).past
 alone_legal f past (act.Put table row) none names legal = legal_ended f past (table ∷ []) [] (act.Put table row) none legal names
 alone_legal f past (act.Show table) none names legal = legal_ended f past [] (table ∷ []) (act.Show table) none legal names
+alone_legal f past (act.Insert table rows) none names legal = absurd names
+alone_legal f past (act.Update table sets filter) none names legal = absurd names
+alone_legal f past (act.Delete table filter) none names legal = absurd names
+alone_legal f past (act.Select query) none names legal = absurd names

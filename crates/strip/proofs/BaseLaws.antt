@@ -68,6 +68,7 @@ base_with true name columns key (Some numbers) e plain below = record {
   key = below;
   limit = (lit≤ tt, lit≤ tt);
   stored = refl;
+  unkept = refl;
 }
 
 base_keyed : (name : List ℕ) (columns : List ColumnDef) (key : List (List ℕ)) → AllByRecursion IsPlain columns → DeclaresWell (table_keyed name columns key)

@@ -49,6 +49,10 @@ module _ (f : Fixed) (before : List Entry) (write read : List ℕ) (one : Act) (
 keeping_alone : (f : Fixed) (before : List Entry) (one : Act) (kept : List Task) → live before ≡ [] → AllByRecursion IsPlainRule f.rules → Legal f before → Names (length f.defs) one → Keeping f before kept → Keeping f (done_alone f before one).past kept
 keeping_alone f before (act.Put table row) kept none plain legal names keeping = keeping_with f before (table ∷ []) [] (act.Put table row) none kept plain legal names keeping
 keeping_alone f before (act.Show table) kept none plain legal names keeping = keeping_with f before [] (table ∷ []) (act.Show table) none kept plain legal names keeping
+keeping_alone f before (act.Insert table rows) kept none plain legal names keeping = absurd names
+keeping_alone f before (act.Update table sets filter) kept none plain legal names keeping = absurd names
+keeping_alone f before (act.Delete table filter) kept none plain legal names keeping = absurd names
+keeping_alone f before (act.Select query) kept none plain legal names keeping = absurd names
 
 -- what is so of what never changes and the history is so of the engine that shows them
 moved : (P : Fixed → List Entry → Type 0) (f g : Fixed) (p q : List Entry) → g ≡ f → q ≡ p → P f p → P g q

@@ -16,10 +16,10 @@ use Rattle.strip_parse.specs.Exactness.{IsRight}
 use Rattle.strip_parse.specs.Parsed.{reading, answer_of, parsed_tokens, parsed}
 use Rattle.strip_parse.specs.Reading.{Halt}
 use Rattle.strip_parse.proofs.Exact.{right}
-use Rattle.strip_engine.specs.Setup.{is_plain}
+use Rattle.strip_meaning.specs.First.{is_stored}
 
 abbrev pub IsPlain : ColumnDef → Type 0
-IsPlain c = is_plain c.kind ≡ true
+IsPlain c = is_stored c.kind ≡ true
 
 abbrev pub ArePlain : Statement → Type 0
 ArePlain (st.Table name cs key limit) = AllByRecursion IsPlain cs

@@ -17,8 +17,8 @@ use Rattle.strip_model.specs.Derived.{Fixed}
 use Rattle.strip_model.specs.Legal.{Names}
 use Rattle.strip_model.specs.Says.{Answer, says, to_finish, to_start}
 use Rattle.strip_model.specs.Says as said
-use Rattle.strip_engine.specs.Keepers.{first_def}
-use Rattle.strip_engine.specs.Setup.{AreTables, IsBase}
+use Rattle.strip_meaning.specs.First.{IsBase, first_def}
+use Rattle.strip_engine.specs.Setup.{AreTables}
 use Rattle.strip_engine.specs.State.{fixed_by}
 use Rattle.strip.specs.declared.orders.Derivation.{Derivation}
 use Rattle.strip.specs.declared.orders.Order.{Order}
@@ -46,7 +46,7 @@ module _ (def : TableDef) (d : Derivation) (own : TableDef) (names : HasThreeNam
   over_by None (Some value) g v e = absurd (cc)
   over_by (Some group) None g v e = absurd (cc)
   over_by (Some group) (Some value) g v e =
-      let made = first_def d.name (form_of d group value) (kind_at def.columns group) false in
+      let made = first_def d.name (form_of d group value) (kind_at def.columns group) None false in
       let by_kind : (b : Bool) → is_int (kind_at def.columns value) ≡ b → cond b (Some made) None ≡ Some own → IsOver def own = λ b.
       elim b as (λ c. is_int (kind_at def.columns value) ≡ c → cond c (Some made) None ≡ Some own → IsOver def own) [
         | false ↦ λ int is. absurd (cc)
@@ -63,7 +63,7 @@ module _ (def : TableDef) (d : Derivation) (own : TableDef) (names : HasThreeNam
                 value_kind = int_is (kind_at def.columns value) int;
               };
               differ = record { sum = names.sum; count = names.count; totals = names.totals };
-              is = subst (λ t. t ≡ first_def t.name (form_of d group value) (kind_at def.columns group) t.declared) same refl;
+              is = subst (λ t. t ≡ first_def t.name (form_of d group value) (kind_at def.columns group) t.kept t.declared) same refl;
             })
       ] in
       by_kind (is_int (kind_at def.columns value)) refl e

@@ -2,8 +2,8 @@
 use Rattle.std.proofs.Common.{◌<◌, [], ◌∷◌, inl, inr, arith, sym, subst}
 use Rattle.strip_value.specs.declared.tables.TableDef.{TableDef}
 use Rattle.strip_meaning.specs.Contents.{def_at}
-use Rattle.strip_engine.specs.Keepers.{Suits}
-use Rattle.strip_engine.specs.Setup.{AreTables, IsBase, IsTableOf}
+use Rattle.strip_meaning.specs.First.{IsBase, Suits}
+use Rattle.strip_engine.specs.Setup.{AreTables, IsTableOf}
 use Rattle.strip.specs.Stages.{IsOver}
 
 pub tables_one : (def : TableDef) → IsBase def → AreTables (def ∷ [])

@@ -6,7 +6,7 @@ use Rattle.strip_value.specs.declared.kinds.Kind.TheVariants as kind
 use Rattle.strip_value.specs.declared.tables.By.TheVariants as by
 use Rattle.strip_value.specs.declared.tables.ColumnDef.{ColumnDef}
 use Rattle.strip_value.specs.declared.tables.TableDef.{TableDef}
-use Rattle.strip_engine.specs.Keepers.{Form, first_def, no_column}
+use Rattle.strip_meaning.specs.First.{Form, first_def, no_column}
 use Rattle.strip.specs.declared.orders.Derivation.{Derivation}
 use Rattle.strip.specs.Forms.{number_of}
 
@@ -31,7 +31,7 @@ form_of d group value = record {
 -- what is summed is an `int`
 abbrev pub derived_by : TableDef → Derivation → Option ℕ → Option ℕ → Option TableDef
 derived_by def d (Some group) (Some value) =
-    if is_int (kind_at def.columns value) then Some (first_def d.name (form_of d group value) (kind_at def.columns group) false) else None
+    if is_int (kind_at def.columns value) then Some (first_def d.name (form_of d group value) (kind_at def.columns group) None false) else None
 derived_by def d _ _ = None
 
 -- the derived table, if it is made of the base table and of columns of it, and has another name

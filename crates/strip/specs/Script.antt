@@ -44,10 +44,11 @@ is_refusal (Rows rows) = false
 is_refusal (Count n) = false
 is_refusal (Refused cause) = true
 
--- the begin of a transaction that does the act
+-- the begin of a transaction that does the act; one that is not built names no table
 abbrev pub begin_for : Act → Call
 begin_for (act.Put table row) = to_begin 0 (table ∷ []) []
 begin_for (act.Show table) = to_begin 0 [] (table ∷ [])
+begin_for _ = to_begin 0 [] []
 
 -- how a transaction of one act ended, and the history after it, newest entry first
 pub record Done : Type 0 where

@@ -9,8 +9,8 @@ use Rattle.strip_model.specs.Derived.{Fixed}
 use Rattle.strip_model.specs.History.{live}
 use Rattle.strip_model.specs.Legal.{Legal}
 use Rattle.strip_model.specs.Texts.{line_of_not_running}
-use Rattle.strip_engine.specs.Keepers.{Form, NamesDiffer, Suits, first_def}
-use Rattle.strip_engine.specs.Setup.{AreTables, IsBase}
+use Rattle.strip_meaning.specs.First.{Form, IsBase, NamesDiffer, Suits, first_def}
+use Rattle.strip_engine.specs.Setup.{AreTables}
 use Rattle.strip_engine.specs.State.{fixed, fixed_by, past}
 use Rattle.strip.specs.declared.database.Database.{Database}
 use Rattle.strip.specs.declared.orders.Derivation.{Derivation}
@@ -31,7 +31,7 @@ pub record IsOver (def own : TableDef) : Type 0 where
   pub source : form.source ≡ 0
   pub suits : Suits def.columns form kind
   pub differ : NamesDiffer form
-  pub is : own ≡ first_def own.name form kind own.declared
+  pub is : own ≡ first_def own.name form kind own.kept own.declared
 
 -- a database between transactions
 pub record IsAtRest (f : Fixed) (past : List Entry) : Type 0 where

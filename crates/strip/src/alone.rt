@@ -70,12 +70,14 @@ fn undo(engine: &mut Engine, session: u64)
 }
 
 fn begin_for(engine: &mut Engine, act: &Act) -> Result<u64, AllocError>
-    requires { live (past engine.old) ≡ [] }
+    requires idle { live (past engine.old) ≡ [] }
+    requires names { Names (length engine.old.defs) act.now }
     ensures { BeginsFor engine.old act.now engine.new result }
 {
     let begun = match act {
         Act::Put { table, .. } => engine.begin(0, &[*table], &[]),
         Act::Show { table } => engine.begin(0, &[], &[*table]),
+        _ => unreachable!(),
     };
     match begun {
         Ok(session) => Ok(session),

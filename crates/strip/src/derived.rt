@@ -1,8 +1,8 @@
 //! The derived table that statements declare.
-ghost use Rattle.std.specs.Prelude.{◌≡◌, ◌≤◌, false, get_or, length, IfOk};
+ghost use Rattle.std.specs.Prelude.{◌≡◌, ◌≤◌, false, get_or, length, None, IfOk};
 ghost use Rattle.strip.specs.Derived.{derived_over, form_of, is_int as int_kind, kept_by_sums, kind_at as kind_in};
 ghost use Rattle.strip.specs.Stages.{IsOption};
-ghost use Rattle.strip_engine.specs.Keepers.{first_def, first_query};
+ghost use Rattle.strip_meaning.specs.First.{first_def, first_query};
 ghost use Rattle.strip_value.specs.declared.expressions.Calc.TheVariants.{Column};
 
 use crate::forms::number;
@@ -92,7 +92,7 @@ fn columns(
     derivation: &Derivation,
     kind: Kind,
 ) -> Result<Items<ColumnDef>, AllocError>
-    ensures { IfOk result (λ columns. columns ≡ (first_def derivation.now.name (form_of derivation.now 0 0) kind false).columns) }
+    ensures { IfOk result (λ columns. columns ≡ (first_def derivation.now.name (form_of derivation.now 0 0) kind None false).columns) }
 {
     let mut columns = Items::new(alloc);
     columns.push(column(alloc, &derivation.group, kind)?)?;
@@ -116,7 +116,7 @@ fn table(
     value: u32,
     kind: Kind,
 ) -> Result<TableDef, AllocError>
-    ensures { IfOk result (λ own. own ≡ first_def derivation.now.name (form_of derivation.now group value) kind false) }
+    ensures { IfOk result (λ own. own ≡ first_def derivation.now.name (form_of derivation.now group value) kind None false) }
 {
     let name = derivation.name.copy(alloc)?;
     let columns = columns(alloc, derivation, kind)?;

@@ -5,7 +5,8 @@ ghost use Rattle.strip.specs.Script.{step, accepted, all_tables, derive_step, ma
 ghost use Rattle.std.specs.Str.{bytes_eq};
 ghost use Rattle.strip.specs.Derived.{derived_over};
 ghost use Rattle.strip.specs.Stages.{stage_of, IsSteady, IsStep, IsIdle, IsOver, HasThreeNames, DeclaresWell};
-ghost use Rattle.strip_engine.specs.Setup.{AreTables, IsBase};
+ghost use Rattle.strip_meaning.specs.First.{IsBase};
+ghost use Rattle.strip_engine.specs.Setup.{AreTables};
 ghost use Rattle.strip_engine.specs.State.{past, fixed};
 ghost use Rattle.strip_model.specs.Legal.{Names};
 ghost use Rattle.strip_value.specs.Pieces.{is_blank as blank_byte};

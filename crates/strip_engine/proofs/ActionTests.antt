@@ -5,6 +5,7 @@ use borrow.Author.Tests.{eq-eqb}
 use Rattle.std.proofs.lemmas.List.{reverse-append}
 use Rattle.std.specs.declared.alloc.AllocError.{AllocError}
 use Rattle.strip_value.specs.declared.kinds.Kind.TheVariants as kind
+use Rattle.strip_value.specs.declared.tables.By.TheVariants as by
 use Rattle.strip_value.specs.declared.tables.TableDef.{TableDef}
 use Rattle.strip_meaning.specs.Actions.{BoundRow, due_at, first_due, in_state, is_pending, next, rows_of}
 use Rattle.strip_meaning.specs.Contents.{contents, no_function}
@@ -21,13 +22,13 @@ use Rattle.strip_engine.specs.declared.answers.Taken.{Taken}
 use Rattle.strip_engine.specs.declared.answers.Taken.TheVariants as one_taken
 use Rattle.strip_engine.specs.ActionTests.{Gives, IsIdle, IsInOrder, int_columns, sums_of_groups}
 use Rattle.strip_engine.specs.Calls.{Finishes, HasContent, Refuses, Starts}
-use Rattle.strip_engine.specs.Keepers.{first_def}
-use Rattle.strip_engine.specs.Setup.{AreTables, IsBase}
+use Rattle.strip_meaning.specs.First.{IsBase, first_def}
+use Rattle.strip_engine.specs.Setup.{AreTables}
 use Rattle.strip_engine.specs.State.{State, fixed, past, with_entry}
 
 -- ---- the tables
 
-pub are_tables : (t d : TableDef) (defs : List TableDef) → IsBase t → t.columns ≡ int_columns (105 ∷ 100 ∷ []) (103 ∷ []) (118 ∷ []) → d ≡ first_def (100 ∷ []) sums_of_groups kind.Int true → defs ≡ t ∷ d ∷ [] → AreTables defs
+pub are_tables : (t d : TableDef) (defs : List TableDef) → IsBase t → t.columns ≡ int_columns (105 ∷ 100 ∷ []) (103 ∷ []) (118 ∷ []) → d ≡ first_def (100 ∷ []) sums_of_groups kind.Int (Some by.Sum) true → defs ≡ t ∷ d ∷ [] → AreTables defs
 are_tables t d defs base columns is both = subst AreTables (sym both) (record {
   few = omega arith;
   each = (
@@ -40,7 +41,7 @@ are_tables t d defs base columns is both = subst AreTables (sym both) (record {
         base = base;
         suits = rw columns (record { group_there = omega arith; value_there = omega arith; group_kind = refl; value_kind = refl });
         differ = record { sum = refl; count = refl; totals = refl };
-        is = is ∙ ap (λ name. first_def name sums_of_groups kind.Int true) (sym (ap (λ (def : TableDef). def.name) is)) ∙ ap (first_def d.name sums_of_groups kind.Int) (sym (ap (λ (def : TableDef). def.declared) is));
+        is = subst (λ (def : TableDef). def ≡ first_def def.name sums_of_groups kind.Int def.kept def.declared) (sym is) refl;
       }),
       tt,
     ),

@@ -17,7 +17,7 @@ use Rattle.strip_value.specs.declared.actions.Content.TheVariants.{Totals}
 use Rattle.strip_value.specs.declared.actions.FiredRule.{FiredRule}
 use Rattle.strip_value.specs.declared.actions.KeyOf.TheVariants.{Plain}
 use Rattle.strip_value.specs.declared.acts.Act.{Act}
-use Rattle.strip_value.specs.declared.acts.Act.TheVariants.{Put, Show}
+use Rattle.strip_value.specs.declared.acts.Act.TheVariants.{Insert, Put, Update, Delete, Select, Show}
 use Rattle.strip_value.specs.declared.acts.ActError.{ActError}
 use Rattle.strip_value.specs.declared.acts.ActError.TheVariants.{Derived}
 use Rattle.strip_value.specs.declared.acts.Holds.{Holds}
@@ -27,6 +27,7 @@ use Rattle.strip_value.specs.declared.changes.Shift.TheVariants.{Inserted, Delet
 use Rattle.strip_value.specs.declared.kinds.Kind.{Kind}
 use Rattle.strip_value.specs.declared.kinds.Kind.TheVariants as kind
 use Rattle.strip_value.specs.declared.rules.Rule.{Rule}
+use Rattle.strip_value.specs.declared.tables.By.{By}
 use Rattle.strip_value.specs.declared.tables.ColumnDef.{ColumnDef}
 use Rattle.strip_value.specs.declared.tables.TableDef.{TableDef}
 use Rattle.strip_value.specs.declared.values.Value.{Value}
@@ -54,9 +55,10 @@ use Rattle.strip_engine.specs.declared.deltas.Side.{Side}
 use Rattle.strip_engine.specs.declared.deltas.Side.TheVariants as side
 use Rattle.strip_engine.specs.declared.keepers.Keeper.{Keeper}
 use Rattle.strip_engine.specs.declared.queue.Waiting.{Waiting}
-use Rattle.strip_engine.specs.Keepers.{Form, NamesDiffer, first_def, no_column, keeper_at, kept_def, keepers_from, no_keeper}
+use Rattle.strip_meaning.specs.First.{Form, IsBase, IsFirst, NamesDiffer, first_def, no_column}
+use Rattle.strip_engine.specs.Keepers.{keeper_at, kept_def, keepers_from, no_keeper}
 use Rattle.strip_engine.specs.Rules.{rules_from, functions_from}
-use Rattle.strip_engine.specs.Setup.{IsBase, IsFirst, IsTableOf, AreTables}
+use Rattle.strip_engine.specs.Setup.{IsTableOf, AreTables}
 use Rattle.strip_engine.specs.State.{fixed_by}
 use Rattle.strip_engine.specs.Changes.{ShiftFits, ChangeFits, moved_row, coming_row, going_row, delta_row, with_delta, deltas, bound_rows, bound_by, fired_by}
 use Rattle.strip_engine.specs.Queue.{IsWaiting, as_firing, plain_id}
@@ -90,8 +92,8 @@ bytes_same : (t : List ℕ) → bytes_eq t t ≡ true
 bytes_same t = (bytes_eq-Decides t t).1 refl
 
 -- the columns of such a table that are named like its own are its own, in their order
-named_own : (name : List ℕ) (form : Form) (k : Kind) (declared : Bool) → NamesDiffer form → named_like (first_def name form k declared).columns (first_def name form k declared).columns ≡ 0 ∷ 1 ∷ 2 ∷ []
-named_own name form k declared differ =
+named_own : (name : List ℕ) (form : Form) (k : Kind) (how : Option By) (declared : Bool) → NamesDiffer form → named_like (first_def name form k how declared).columns (first_def name form k how declared).columns ≡ 0 ∷ 1 ∷ 2 ∷ []
+named_own name form k how declared differ =
     rw (bytes_same form.group_name, differ.sum, bytes_same form.sum_name, differ.count, differ.totals, bytes_same form.count_name) refl
 
 -- so a row of it is itself
@@ -104,10 +106,10 @@ same_three a b c (u ∷ v ∷ w ∷ x ∷ row) fits = absurd fits.1.1.1
 
 as_own : (defs : List TableDef) (def : TableDef) (row : List Value) → IsFirst defs def → FitsColumns def.columns row → as_derived (named_like def.columns def.columns) row ≡ row
 as_own defs def row first fits =
-    let columns = (first_def def.name first.form first.kind def.declared).columns in
+    let columns = (first_def def.name first.form first.kind def.kept def.declared).columns in
     let are : def.columns ≡ columns = ap (λ (d : TableDef). d.columns) first.is in
     ap (λ cs. as_derived (named_like cs cs) row) are
-    ∙ ap (λ from. as_derived from row) (named_own def.name first.form first.kind def.declared first.differ)
+    ∙ ap (λ from. as_derived from row) (named_own def.name first.form first.kind def.kept def.declared first.differ)
     ∙ same_three (get_or columns 0 no_column) (get_or columns 1 no_column) (get_or columns 2 no_column) row (subst (λ cs. FitsColumns cs row) are fits)
 
 -- it is a derived table, of three columns
@@ -258,6 +260,10 @@ module _ (defs : List TableDef) (are : AreTables defs) where
       put_fits ts id row t names (not_derived (is_some def.query) id stored.0) fitting.0)
   effect_fits holds ts (Show id) t names =
       unless_fits (not_held holds id) ts (done ts (Show id)) t (λ none. record { tables = t; changes = tt })
+  effect_fits holds ts (Insert id rows) t names = absurd names
+  effect_fits holds ts (Update id sets filter) t names = absurd names
+  effect_fits holds ts (Delete id filter) t names = absurd names
+  effect_fits holds ts (Select query) t names = absurd names
 
   -- what acts make of them one after another
   pub record RunFits (r : Run) : Type 0 where

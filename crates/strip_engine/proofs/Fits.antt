@@ -18,8 +18,8 @@ use Rattle.strip_value.proofs.Lists.{all_at}
 use Rattle.strip_meaning.specs.Effect.{is_alike, outside_at, kind_mismatch, out_of_range, misfit, derived, or_cause, table_at, no_table}
 use Rattle.strip_value.specs.declared.queries.Query.{Query}
 use Rattle.strip_meaning.specs.Contents.{def_at}
-use Rattle.strip_engine.specs.Keepers.{first_def}
-use Rattle.strip_engine.specs.Setup.{is_plain, IsBase, IsTableOf, AreTables}
+use Rattle.strip_meaning.specs.First.{IsBase, first_def, is_stored}
+use Rattle.strip_engine.specs.Setup.{IsTableOf, AreTables}
 use Rattle.strip_engine.specs.Steps.{defs_of}
 
 -- of two causes that aren't there neither is
@@ -32,7 +32,7 @@ within n true true a b c e = (search (tests, rules), search (tests, rules))
 within n true false a b c e = cc
 within n false lt a b c e = cc
 
-fits_value : (k : Kind) (v : Value) (c : ℕ) → is_plain k ≡ true → is_alike k v ≡ true → outside_at c k v ≡ None → Fits k v
+fits_value : (k : Kind) (v : Value) (c : ℕ) → is_stored k ≡ true → is_alike k v ≡ true → outside_at c k v ≡ None → Fits k v
 fits_value kind.Int (Int n) c p a o = within n (int_le (neg_ℤ (pos (2 ^ 31))) n) (int_lt n (pos (2 ^ 31))) refl refl c o
 fits_value kind.Int (Text t) c p a o = cc
 fits_value kind.Big v c p a o = cc
@@ -44,7 +44,7 @@ alike_from true c e = refl
 alike_from false c e = cc
 
 -- values of the right kinds and in range fit plain columns
-pub fits_columns : (c : ℕ) (columns : List ColumnDef) (row : List Value) → AllByRecursion (λ column. is_plain column.kind ≡ true) columns → kind_mismatch c columns row ≡ None → out_of_range c columns row ≡ None → FitsColumns columns row
+pub fits_columns : (c : ℕ) (columns : List ColumnDef) (row : List Value) → AllByRecursion (λ column. is_stored column.kind ≡ true) columns → kind_mismatch c columns row ≡ None → out_of_range c columns row ≡ None → FitsColumns columns row
 fits_columns c [] [] plain k o = tt
 fits_columns c [] (v ∷ vs) plain k o = cc
 fits_columns c (d ∷ ds) [] plain k o = cc
@@ -81,7 +81,7 @@ no_query (Some q) id e = cc
 pub is_base : (defs : List TableDef) (def : TableDef) (id : ℕ) → IsTableOf defs def → derived def id ≡ None → IsBase def
 is_base defs def id (inl base) none = base
 is_base defs def id (inr first) none =
-    let bare : (first_def def.name first.form first.kind def.declared).query ≡ None = sym (ap (λ (d : TableDef). d.query) first.is) ∙ no_query def.query id none in
+    let bare : (first_def def.name first.form first.kind def.kept def.declared).query ≡ None = sym (ap (λ (d : TableDef). d.query) first.is) ∙ no_query def.query id none in
     cc
 
 -- what indexing the tables gives

@@ -42,10 +42,11 @@ use Rattle.strip_meaning.specs.Course.{IsPlainRule}
 use Rattle.strip_meaning.specs.Maintained.{coming, going, delta_query, delta_queries, keep_function, keep_rule}
 use Rattle.strip_meaning.proofs.PlainActions.{IsAtOnce}
 use Rattle.strip_engine.specs.declared.keepers.Keeper.{Keeper}
-use Rattle.strip_engine.specs.Keepers.{Form, first_query, keeper_by, keeper_before, keepers_from, no_column, no_keeper, keeper_at, kept_def}
+use Rattle.strip_meaning.specs.First.{Form, IsFirst, first_query, no_column}
+use Rattle.strip_engine.specs.Keepers.{keeper_by, keeper_before, keepers_from, no_keeper, keeper_at, kept_def}
 use Rattle.strip_engine.specs.Deltas.{IsSmallAt, IsSmallShift, FitsKeeper, KeepsSmall}
 use Rattle.strip_engine.specs.Rules.{at_once, rule_before, rules_from, function_before, functions_from}
-use Rattle.strip_engine.specs.Setup.{IsFirst, IsTableOf, AreTables}
+use Rattle.strip_engine.specs.Setup.{IsTableOf, AreTables}
 
 -- ---- as many of each
 

@@ -1,7 +1,7 @@
 -- Derived tables beside base tables: what acts do to the base tables doesn't depend on the rows of derived ones.
 use Rattle.std.proofs.Common.{◌≡◌, ℕ, zero, suc, ◌+◌, Bool, true, false, cond, List, [], ◌∷◌, ◌++◌, map, set, Option, Some, None, is_some, refl, sym, ap, ◌∙◌, subst, arith}
 use Rattle.strip_value.specs.declared.acts.Act.{Act}
-use Rattle.strip_value.specs.declared.acts.Act.TheVariants.{Put, Show}
+use Rattle.strip_value.specs.declared.acts.Act.TheVariants.{Insert, Put, Update, Delete, Select, Show}
 use Rattle.strip_value.specs.declared.acts.ActError.{ActError}
 use Rattle.strip_value.specs.declared.acts.ActError.TheVariants.{Derived}
 use Rattle.strip_value.specs.declared.acts.Holds.{Holds}
@@ -129,6 +129,10 @@ module _ (holds : Holds) (r : Rows) (base : List Keyed) where
   same_effect (Put id row) =
       subst (λ cause. Same (unless cause all (done all (Put id row))) (unless (refusal holds base (Put id row)) base (done base (Put id row)))) (sym (same_refusal (is_kept (table_at base id)) id row refl)) (put_same (is_kept (table_at base id)) id row refl)
   same_effect (Show id) = unless_same (not_held holds id) (done all (Show id)) (done base (Show id)) (λ none. record { tables = refl; changes = refl })
+  same_effect (Insert id rows) = record { tables = refl; changes = refl }
+  same_effect (Update id sets filter) = record { tables = refl; changes = refl }
+  same_effect (Delete id filter) = record { tables = refl; changes = refl }
+  same_effect (Select query) = record { tables = refl; changes = refl }
 
 -- what acts change, one after another, in both
 pub record SameRun (r : Rows) (all : Run) (base : Run) : Type 0 where

@@ -6,6 +6,7 @@ use Rattle.strip_value.specs.declared.actions.KeyOf.TheVariants.{Plain}
 use Rattle.strip_value.specs.declared.acts.Act.TheVariants.{Put}
 use Rattle.strip_value.specs.declared.acts.Reply.TheVariants.{Count}
 use Rattle.strip_value.specs.declared.kinds.Kind.TheVariants as kind
+use Rattle.strip_value.specs.declared.tables.By.TheVariants as by
 use Rattle.strip_value.specs.declared.tables.TableDef.{TableDef}
 use Rattle.strip_value.specs.declared.values.Value.{Value}
 use Rattle.strip_value.specs.declared.values.Value.TheVariants.{Int}
@@ -18,9 +19,9 @@ use Rattle.strip_model.specs.declared.entries.Entry.TheVariants.{Begin, Did, Com
 use Rattle.strip_model.specs.History.{base}
 use Rattle.strip_model.specs.Derived.{Fixed, beginning, happened, tables}
 use Rattle.strip_model.specs.Legal.{Begins, Finishes, Legal, Starts}
-use Rattle.strip_engine.specs.Keepers.{Form, first_def}
+use Rattle.strip_meaning.specs.First.{Form, IsBase, IsFirst, first_def}
 use Rattle.strip_engine.specs.Quiet.{IsQuiet, query_rows}
-use Rattle.strip_engine.specs.Setup.{AreTables, IsBase, IsFirst}
+use Rattle.strip_engine.specs.Setup.{AreTables}
 use Rattle.strip_engine.specs.State.{fixed_by}
 
 -- numbers and their colours, by number
@@ -40,7 +41,7 @@ abbrev by_colour : Form
 by_colour = record { source = 0; group = 1; value = 0; group_name = codes "colour"; sum_name = codes "sum"; count_name = codes "count" }
 
 abbrev colours : TableDef
-colours = first_def (codes "colours") by_colour kind.Int true
+colours = first_def (codes "colours") by_colour kind.Int (Some by.Sum) true
 
 abbrev defs : List TableDef
 defs = numbers ∷ colours ∷ []
@@ -52,6 +53,7 @@ numbers_base = record {
   key = (omega arith, tt);
   limit = (omega arith, omega arith);
   stored = refl;
+  unkept = refl;
 }
 
 colours_first : IsFirst defs colours

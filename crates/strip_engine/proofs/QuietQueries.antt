@@ -27,7 +27,8 @@ use Rattle.strip_add.proofs.LawProofs.{all_zero}
 use Rattle.strip_meaning.proofs.Behind.{all_pass}
 use Rattle.strip_add.proofs.KeyedAsMaps.{Sets, at_first, key_is, past_first, sets_row}
 use Rattle.strip_engine.specs.declared.keepers.Keeper.{Keeper}
-use Rattle.strip_engine.specs.Keepers.{Form, first_query, keeper_by}
+use Rattle.strip_meaning.specs.First.{Form, first_query}
+use Rattle.strip_engine.specs.Keepers.{keeper_by}
 use Rattle.strip_engine.specs.Quiet.{group_rows, group_totals}
 use Rattle.strip_engine.proofs.QuietTotals.{all_in_order}
 

@@ -11,6 +11,7 @@ use Rattle.strip_value.specs.declared.changes.Change.{Change}
 use Rattle.strip_value.specs.declared.kinds.Kind.{Kind}
 use Rattle.strip_value.specs.declared.queries.Query.{Query}
 use Rattle.strip_value.specs.declared.rules.Rule.{Rule}
+use Rattle.strip_value.specs.declared.tables.By.{By}
 use Rattle.strip_value.specs.declared.tables.TableDef.{TableDef}
 use Rattle.strip_value.specs.declared.values.Value.{Value}
 use Rattle.strip_value.specs.Kinds.{FitsColumns}
@@ -40,10 +41,11 @@ use Rattle.strip_model.proofs.Courses.{course_of}
 use Rattle.strip_engine.specs.declared.keepers.Keeper.{Keeper}
 use Rattle.strip_engine.specs.Changes.{bound_by, fired_by}
 use Rattle.strip_engine.specs.Jobs.{rows_in}
-use Rattle.strip_engine.specs.Keepers.{Form, first_def, first_query, keeper_at, keeper_before, keeper_by, keepers_from, kept_def, no_keeper}
+use Rattle.strip_meaning.specs.First.{Form, IsFirst, first_def, first_query}
+use Rattle.strip_engine.specs.Keepers.{keeper_at, keeper_before, keeper_by, keepers_from, kept_def, no_keeper}
 use Rattle.strip_engine.specs.Quiet.{QueryHasTotals, QuietTablesAreQueries, group_totals, query_rows, rows_by}
 use Rattle.strip_engine.specs.Rules.{functions_from, rules_from}
-use Rattle.strip_engine.specs.Setup.{AreTables, IsFirst, IsTableOf}
+use Rattle.strip_engine.specs.Setup.{AreTables, IsTableOf}
 use Rattle.strip_engine.specs.State.{fixed_by}
 use Rattle.strip_engine.proofs.KeeperRules.{IsKept, all_kept, fired_is, function_is, rule_function, rules_plain}
 use Rattle.strip_engine.proofs.BoundRows.{AddsTo, BoundFits, FiredFits, added_are, base_fits, changes_fit, fired_fits, first_derived, plain_rows}
@@ -229,9 +231,9 @@ module _ (defs : List TableDef) (are : AreTables defs) (most : ℕ) where
 
 -- ---- the rows of sums are the rows of the query
 
-module _ (name : List ℕ) (form : Form) (kind : Kind) (declared : Bool) where
+module _ (name : List ℕ) (form : Form) (kind : Kind) (how : Option By) (declared : Bool) where
   abbrev def : TableDef
-  def = first_def name form kind declared
+  def = first_def name form kind how declared
 
   kept_made : (v : Value) (a b : ℤ) → kept_sum def [] (row_of (v ∷ []) (a ∷ b ∷ [])) ≡ shown (v ∷ []) (a ∷ b ∷ [])
   kept_made v a b = ap₂ (λ x y. shown (v ∷ []) (x ∷ y ∷ [])) (+ℤ_idl a) (+ℤ_idl b)
@@ -255,7 +257,7 @@ module _ (name : List ℕ) (form : Form) (kind : Kind) (declared : Bool) where
     where
       by_row : (key : List Value) (o : Option (List Value)) → row_at (0 ∷ []) rows key ≡ o → chosen (kept_sum def []) (cond (is_some o) (Some (row_of key (sums_at def rows key))) None) None ≡ shown key (sums_at def rows key)
       by_row key (Some row) e =
-          let sums = sums_are name form kind declared rows key triple in
+          let sums = sums_are name form kind how declared rows key triple in
           let own : key ≡ column_of row 0 ∷ [] = sym (row_has_key (0 ∷ []) rows key row e) in
           ap₂ (λ k s. kept_sum def [] (row_of k s)) own sums
           ∙ kept_made (column_of row 0) (total (told_at 1 key) rows) (total (told_at 2 key) rows)
@@ -274,15 +276,15 @@ is_first defs def (inl base) some = let stored = base.stored in cc
 is_first defs def (inr first) some = first
 
 -- the totals of a row that is shown, and of one that isn't
-shown_totals : (name : List ℕ) (form : Form) (kind : Kind) (declared : Bool) (key : List Value) (a b : ℤ) → (any_total (a ∷ b ∷ []) ≡ true → IsSingle key) → totals_or (first_def name form kind declared) (shown key (a ∷ b ∷ [])) ≡ a ∷ b ∷ []
-shown_totals name form kind declared key a b single = by_test (any_total (a ∷ b ∷ [])) refl
+shown_totals : (name : List ℕ) (form : Form) (kind : Kind) (how : Option By) (declared : Bool) (key : List Value) (a b : ℤ) → (any_total (a ∷ b ∷ []) ≡ true → IsSingle key) → totals_or (first_def name form kind how declared) (shown key (a ∷ b ∷ [])) ≡ a ∷ b ∷ []
+shown_totals name form kind how declared key a b single = by_test (any_total (a ∷ b ∷ [])) refl
   where
-    of_key : (k : List Value) → IsSingle k → totals_or (first_def name form kind declared) (Some (row_of k (a ∷ b ∷ []))) ≡ a ∷ b ∷ []
+    of_key : (k : List Value) → IsSingle k → totals_or (first_def name form kind how declared) (Some (row_of k (a ∷ b ∷ []))) ≡ a ∷ b ∷ []
     of_key [] one = absurd one
     of_key (v ∷ []) one = refl
     of_key (v ∷ w ∷ more) one = absurd one
 
-    by_test : (t : Bool) → any_total (a ∷ b ∷ []) ≡ t → totals_or (first_def name form kind declared) (cond t (Some (row_of key (a ∷ b ∷ []))) None) ≡ a ∷ b ∷ []
+    by_test : (t : Bool) → any_total (a ∷ b ∷ []) ≡ t → totals_or (first_def name form kind how declared) (cond t (Some (row_of key (a ∷ b ∷ []))) None) ≡ a ∷ b ∷ []
     by_test true e = of_key key (single e)
     by_test false e = sym (all_zero (a ∷ b ∷ []) e)
 
@@ -301,8 +303,8 @@ totals_of_kept defs ts k key keeps =
     let rows = rows_at ts form.source in
     let query = query_rows_are form k.table ts in
     ap (λ d. totals_at d (query_rows d ts) key) keeps.first.is
-    ∙ ap (totals_or (first_def def.name form keeps.first.kind def.declared)) (query.each key)
-    ∙ shown_totals def.name form keeps.first.kind def.declared key (get_or (group_totals one rows key) 0 (pos 0)) (get_or (group_totals one rows key) 1 (pos 0)) (query.single key)
+    ∙ ap (totals_or (first_def def.name form keeps.first.kind def.kept def.declared)) (query.each key)
+    ∙ shown_totals def.name form keeps.first.kind def.kept def.declared key (get_or (group_totals one rows key) 0 (pos 0)) (get_or (group_totals one rows key) 1 (pos 0)) (query.single key)
     ∙ ap (λ (other : Keeper). group_totals other (rows_at ts other.source) key) (same_keeper k form.source form.group form.value keeps.source keeps.group keeps.value)
 
 pub query_has_totals : QueryHasTotals
@@ -320,14 +322,14 @@ quiet_tables_are_queries defs most past id are legal quiet some declared =
     let fired = all_fired defs are most past legal in
     let rows = delta_rows f k past in
     let added = firings_add defs are most id (first_query form) declared has past legal in
-    let own = first_def def.name form first.kind def.declared in
+    let own = first_def def.name form first.kind def.kept def.declared in
     let fits : AllByRecursion (FitsColumns own.columns) rows = subst (λ (d : TableDef). AllByRecursion (FitsColumns d.columns) rows) first.is (subst (AllByRecursion (FitsColumns def.columns)) added (firings_fit defs are most id (firings (happened f past)) fired)) in
-    let kept = kept_rows def.name form first.kind def.declared defs rows (subst (IsFirst defs) first.is first) fits (delta_rows_triple f k past) in
+    let kept = kept_rows def.name form first.kind def.kept def.declared defs rows (subst (IsFirst defs) first.is first) fits (delta_rows_triple f k past) in
     let query = query_rows_are form id (base (beginning f) past) in
     ap (λ (t : Keyed). t.rows) (table_is f past id def (base_fits f past are legal) refl some)
     ∙ ap (λ those. kept_sums def (flat_map (action_adds defs (functions_from 0 defs) (rules_from 0 defs) (happened f past) id) those)) (quiet_finished (rules_from 0 defs) (happened f past) quiet)
     ∙ ap (kept_sums def) (actions_add defs are (happened f past) id course fired ∙ added)
     ∙ ap (λ d. kept_sums d rows) first.is
     ∙ same_rows (0 ∷ []) (kept_sums own rows) (mean_now (first_query form) (base (beginning f) past)) kept.rises query.rises (λ key.
-    kept.each key ∙ ap (shown key) (sums_stand f past k def.name form first.kind def.declared key legal) ∙ sym (query.each key))
+    kept.each key ∙ ap (shown key) (sums_stand f past k def.name form first.kind def.kept def.declared key legal) ∙ sym (query.each key))
     ∙ sym (ap (λ o. rows_by o (base (beginning f) past)) has)

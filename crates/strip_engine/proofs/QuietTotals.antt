@@ -10,13 +10,14 @@ use Rattle.std.specs.declared.cmp.Ordering.{Ordering}
 use Rattle.std.specs.declared.cmp.Ordering.TheVariants.{Less, Equal, Greater}
 use Rattle.strip_value.specs.declared.actions.Bound.{Bound}
 use Rattle.strip_value.specs.declared.acts.Act.{Act}
-use Rattle.strip_value.specs.declared.acts.Act.TheVariants.{Put, Show}
+use Rattle.strip_value.specs.declared.acts.Act.TheVariants.{Insert, Put, Update, Delete, Select, Show}
 use Rattle.strip_value.specs.declared.acts.ActError.{ActError}
 use Rattle.strip_value.specs.declared.acts.Holds.{Holds}
 use Rattle.strip_value.specs.declared.changes.Change.{Change}
 use Rattle.strip_value.specs.declared.changes.Shift.{Shift}
 use Rattle.strip_value.specs.declared.changes.Shift.TheVariants.{Inserted, Deleted, Changed}
 use Rattle.strip_value.specs.declared.kinds.Kind.{Kind}
+use Rattle.strip_value.specs.declared.tables.By.{By}
 use Rattle.strip_value.specs.declared.tables.TableDef.{TableDef}
 use Rattle.strip_value.specs.declared.values.Value.{Value}
 use Rattle.strip_value.specs.declared.values.Value.TheVariants.{Int, Text}
@@ -40,7 +41,8 @@ use Rattle.strip_engine.specs.declared.deltas.Side.TheVariants as side
 use Rattle.strip_engine.specs.declared.keepers.Keeper.{Keeper}
 use Rattle.strip_engine.specs.Changes.{bound_by, bound_rows, coming_row, delta_row, deltas, going_row, moved_row, with_delta}
 use Rattle.strip_engine.specs.Jobs.{rows_in}
-use Rattle.strip_engine.specs.Keepers.{Form, first_def, keeper_at, keepers_from, kept_def, no_keeper}
+use Rattle.strip_meaning.specs.First.{Form, first_def}
+use Rattle.strip_engine.specs.Keepers.{keeper_at, keepers_from, kept_def, no_keeper}
 use Rattle.strip_engine.specs.Quiet.{DeltasAddUp, group_rows, group_totals, less}
 use Rattle.strip_engine.specs.State.{fixed_by}
 use Rattle.strip_engine.proofs.BoundRows.{acts_name}
@@ -194,6 +196,10 @@ module _ (of : List Value → ℤ) (source : ℕ) where
 
   done_adds : (ts : List Keyed) (act : Act) → AllByRecursion RowsRise ts → Names (length ts) act → Adds of source ts (done ts act).tables (done ts act).changes
   done_adds ts (Show id) rise names = nothing_adds ts rise
+  done_adds ts (Insert id rows) rise names = absurd names
+  done_adds ts (Update id sets filter) rise names = absurd names
+  done_adds ts (Delete id filter) rise names = absurd names
+  done_adds ts (Select query) rise names = absurd names
   done_adds ts (Put id row) rise names =
       let table = table_at ts id in
       let here = all_or RowsRise ts id no_table rise tt in
@@ -361,18 +367,18 @@ same_number (Int n) = refl
 same_number (Text t) = refl
 
 -- the sums of a key over such rows
-pub sums_are : (name : List ℕ) (form : Form) (kind : Kind) (declared : Bool) (rows : List (List Value)) (key : List Value) → AllByRecursion IsTriple rows
-    → sums_at (first_def name form kind declared) rows key ≡ total (told_at 1 key) rows ∷ total (told_at 2 key) rows ∷ []
-sums_are name form kind declared [] key all = refl
-sums_are name form kind declared ([] ∷ rows) key all = absurd all.0
-sums_are name form kind declared ((a ∷ []) ∷ rows) key all = absurd all.0
-sums_are name form kind declared ((a ∷ b ∷ []) ∷ rows) key all = absurd all.0
-sums_are name form kind declared ((a ∷ b ∷ c ∷ d ∷ more) ∷ rows) key all = absurd all.0
-sums_are name form kind declared ((a ∷ b ∷ c ∷ []) ∷ rows) key all =
+pub sums_are : (name : List ℕ) (form : Form) (kind : Kind) (how : Option By) (declared : Bool) (rows : List (List Value)) (key : List Value) → AllByRecursion IsTriple rows
+    → sums_at (first_def name form kind how declared) rows key ≡ total (told_at 1 key) rows ∷ total (told_at 2 key) rows ∷ []
+sums_are name form kind how declared [] key all = refl
+sums_are name form kind how declared ([] ∷ rows) key all = absurd all.0
+sums_are name form kind how declared ((a ∷ []) ∷ rows) key all = absurd all.0
+sums_are name form kind how declared ((a ∷ b ∷ []) ∷ rows) key all = absurd all.0
+sums_are name form kind how declared ((a ∷ b ∷ c ∷ d ∷ more) ∷ rows) key all = absurd all.0
+sums_are name form kind how declared ((a ∷ b ∷ c ∷ []) ∷ rows) key all =
     let own = sums.number_of b ∷ sums.number_of c ∷ [] in
     let same : own ≡ number_of b ∷ number_of c ∷ [] = ap₂ (λ x y. x ∷ y ∷ []) (same_number b) (same_number c) in
     let here = has_key (0 ∷ []) key (a ∷ b ∷ c ∷ []) in
-    ap₂ (λ one others. cond here (plus one others) others) same (sums_are name form kind declared rows key all.1) ∙ by_test here
+    ap₂ (λ one others. cond here (plus one others) others) same (sums_are name form kind how declared rows key all.1) ∙ by_test here
   where
     by_test : (t : Bool) → cond t (plus (number_of b ∷ number_of c ∷ []) (total (told_at 1 key) rows ∷ total (told_at 2 key) rows ∷ [])) (total (told_at 1 key) rows ∷ total (told_at 2 key) rows ∷ [])
         ≡ (cond t (number_of b) (pos 0) +ℤ total (told_at 1 key) rows) ∷ (cond t (number_of c) (pos 0) +ℤ total (told_at 2 key) rows) ∷ []
@@ -451,14 +457,14 @@ deltas_add_up defs most past caller session moment rule key are legal lt =
     let value : total (told_at 1 key) rows ≡ total (value_of k key) after -ℤ total (value_of k key) before = omega (arith, ints) in
     let one : total (told_at 2 key) rows ≡ total (one_of k key) after -ℤ total (one_of k key) before = omega (arith, ints) in
     ap (λ (d : TableDef). sums_at d rows key) first.is
-    ∙ sums_are (kept_def defs rule).name first.form first.kind (kept_def defs rule).declared rows key (bound_triple k cs)
+    ∙ sums_are (kept_def defs rule).name first.form first.kind (kept_def defs rule).kept (kept_def defs rule).declared rows key (bound_triple k cs)
     ∙ ap₂ (λ x y. x ∷ y ∷ []) value one
     ∙ sym (ap₂ less (group_is k after key) (group_is k before key))
 
 -- the sums of all that was bound are the totals of the groups as they stand
-pub sums_stand : (f : Fixed) (past : List Entry) (k : Keeper) (name : List ℕ) (form : Form) (kind : Kind) (declared : Bool) (key : List Value) → Legal f past
-    → sums_at (first_def name form kind declared) (delta_rows f k past) key ≡ group_totals k (rows_at (base (beginning f) past) k.source) key
-sums_stand f past k name form kind declared key legal =
-    sums_are name form kind declared (delta_rows f k past) key (delta_rows_triple f k past)
+pub sums_stand : (f : Fixed) (past : List Entry) (k : Keeper) (name : List ℕ) (form : Form) (kind : Kind) (how : Option By) (declared : Bool) (key : List Value) → Legal f past
+    → sums_at (first_def name form kind how declared) (delta_rows f k past) key ≡ group_totals k (rows_at (base (beginning f) past) k.source) key
+sums_stand f past k name form kind how declared key legal =
+    sums_are name form kind how declared (delta_rows f k past) key (delta_rows_triple f k past)
     ∙ ap₂ (λ x y. x ∷ y ∷ []) (base_total f k (value_of k key) (told_at 1 key) (tells_value k key) past legal) (base_total f k (one_of k key) (told_at 2 key) (tells_one k key) past legal)
     ∙ sym (group_is k (rows_at (base (beginning f) past) k.source) key)

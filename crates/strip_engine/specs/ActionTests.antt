@@ -7,7 +7,7 @@ use Rattle.strip_model.specs.Says.{Task}
 use Rattle.strip_engine.specs.declared.answers.Taken.{Taken}
 use Rattle.strip_engine.specs.declared.answers.Taken.TheVariants.{Job}
 use Rattle.strip_engine.specs.Calls.{HasContent}
-use Rattle.strip_engine.specs.Keepers.{Form}
+use Rattle.strip_meaning.specs.First.{Form}
 use Rattle.strip_engine.specs.State.{State, fixed, past}
 
 -- three columns of kind `int`, with these names

@@ -1,4 +1,4 @@
--- Derived tables of the first form: a group column, a sum and a count over one base table, kept by a rule at each commit.
+-- How derived tables of the first form are kept: by a rule at each commit.
 use Rattle.std.specs.Prelude.{◌≡◌, ℕ, ◌+◌, ◌<◌, Bool, true, false, if◌then◌else◌, List, [], ◌∷◌, get_or, length, Option, Some, None}
 use Rattle.std.specs.Str.{bytes_eq}
 use Rattle.strip_value.specs.declared.expressions.Calc.{Calc}
@@ -17,55 +17,6 @@ use Rattle.strip_value.specs.declared.tables.TableDef.{TableDef}
 use Rattle.strip_meaning.specs.Contents.{def_at}
 use Rattle.strip_meaning.specs.Maintained.{source_of}
 use Rattle.strip_engine.specs.declared.keepers.Keeper.{Keeper}
-
--- what such a table is made of: the number of its base table, the columns of that one that it groups by and sums, and the
--- names of its own columns
-pub record Form : Type 0 where
-  pub source : ℕ
-  pub group : ℕ
-  pub value : ℕ
-  pub group_name : List ℕ
-  pub sum_name : List ℕ
-  pub count_name : List ℕ
-
--- select G, sum(V) as S, count(*) as N from T group by G
-abbrev pub first_query : Form → Query
-first_query form = record {
-  items = record { name = form.group_name; what = Plain (Column 0 form.group) } ∷ record { name = form.sum_name; what = Sum (Column 0 form.value) } ∷ record { name = form.count_name; what = Count } ∷ [];
-  entries = input.Table form.source ∷ [];
-  filter = True;
-  group = Some (record { entry = 0; column = form.group } ∷ []);
-}
-
--- its definition: the group column has the kind of the base table's
-abbrev pub first_def : List ℕ → Form → Kind → Bool → TableDef
-first_def name form k declared = record {
-  name = name;
-  columns = record { name = form.group_name; kind = k } ∷ record { name = form.sum_name; kind = kind.Big } ∷ record { name = form.count_name; kind = kind.Big } ∷ [];
-  key = 0 ∷ [];
-  limit = None;
-  query = Some (first_query form);
-  kept = if declared then Some by.Sum else None;
-  declared = declared;
-}
-
-abbrev pub no_column : ColumnDef
-no_column = record { name = []; kind = kind.Text }
-
--- the columns are those of the base table, and what is summed is an `int`
-pub record Suits (columns : List ColumnDef) (form : Form) (k : Kind) : Type 0 where
-  pub group_there : form.group < length columns
-  pub value_there : form.value < length columns
-  pub group_kind : (get_or columns form.group no_column).kind ≡ k
-  pub value_kind : (get_or columns form.value no_column).kind ≡ kind.Int
-
--- its columns have three names
-pub record NamesDiffer (form : Form) : Type 0 where
-  pub sum : bytes_eq form.group_name form.sum_name ≡ false
-  pub count : bytes_eq form.group_name form.count_name ≡ false
-  pub totals : bytes_eq form.sum_name form.count_name ≡ false
-
--- ---- how such a table is kept
 
 -- the column that an item shows or sums
 abbrev pub column_in : Calc → ℕ

@@ -1,5 +1,5 @@
 //! What rules and actions bring, with a base table and a derived table that is kept.
-ghost use Rattle.std.specs.Prelude.{true, ◌≡◌, ◌∷◌, ◌≤◌, ◌^◌, [], length, IfOk, OnOk};
+ghost use Rattle.std.specs.Prelude.{true, ◌≡◌, ◌∷◌, ◌≤◌, ◌^◌, [], length, Some, IfOk, OnOk};
 ghost use Rattle.strip_engine.specs.ActionTests.{
   Gives,
   IsIdle,
@@ -7,8 +7,8 @@ ghost use Rattle.strip_engine.specs.ActionTests.{
   int_columns,
   sums_of_groups,
 };
-ghost use Rattle.strip_engine.specs.Keepers.{first_def, first_query};
-ghost use Rattle.strip_engine.specs.Setup.{AreTables, IsBase};
+ghost use Rattle.strip_meaning.specs.First.{IsBase, first_def, first_query};
+ghost use Rattle.strip_engine.specs.Setup.{AreTables};
 ghost use Rattle.strip_engine.specs.State.{past};
 ghost use Rattle.strip_model.specs.History.{live};
 ghost use Rattle.strip_model.specs.Legal.{Names};
@@ -97,7 +97,7 @@ fn query(alloc: Global) -> Result<Query, Fail>
 
 /// The derived table `d` of that query, kept by a rule.
 fn derived_def(alloc: Global) -> Result<TableDef, Fail>
-    ensures { IfOk result (λ def. def ≡ first_def (100 ∷ []) sums_of_groups Kind.Int true) }
+    ensures { IfOk result (λ def. def ≡ first_def (100 ∷ []) sums_of_groups Kind.Int (Some By.Sum) true) }
 {
     let group = column(alloc, b"g", Kind::Int)?;
     let sum = column(alloc, b"s", Kind::Big)?;
@@ -215,16 +215,37 @@ fn puts(
     Ok(())
 }
 
+fn show(table: u32) -> Act
+    ensures { Names 2 result }
+{
+    Act::Show {
+        table: Id(table.min(1)),
+    }
+}
+
+/// Appends the rows of a table, shown in a session.
+fn shows_in(
+    alloc: Global,
+    engine: &mut Engine,
+    session: u64,
+    table: u32,
+    said: &mut Vec<u8>,
+) -> Result<(), Fail>
+    requires { length engine.old.defs ≡ 2 }
+    ensures live { OnOk result (live (past engine.new) ≡ live (past engine.old)) }
+    ensures tables { OnOk result (length engine.new.defs ≡ 2) }
+{
+    let act = show(table);
+    does(alloc, engine, session, &act, said)
+}
+
 /// Appends the rows of a table, shown in a transaction of its own.
 fn shows(alloc: Global, engine: &mut Engine, table: u32, said: &mut Vec<u8>) -> Result<(), Fail>
     requires { IsIdle engine.old }
     ensures { OnOk result (IsIdle engine.new) }
 {
-    let act = Act::Show {
-        table: Id(table.min(1)),
-    };
     let session = open(engine)?;
-    does(alloc, engine, session, &act, said)?;
+    shows_in(alloc, engine, session, table, said)?;
     drop_session(engine, session)?;
     Ok(())
 }
@@ -377,6 +398,22 @@ fn ten_puts(alloc: Global, engine: &mut Engine) -> Result<(), Fail>
     Ok(())
 }
 
+/// Puts a row into `t` in a session, and appends what was answered.
+fn puts_in(
+    alloc: Global,
+    engine: &mut Engine,
+    session: u64,
+    numbers: &[i128],
+    said: &mut Vec<u8>,
+) -> Result<(), Fail>
+    requires { length engine.old.defs ≡ 2 }
+    ensures live { OnOk result (live (past engine.new) ≡ live (past engine.old)) }
+    ensures tables { OnOk result (length engine.new.defs ≡ 2) }
+{
+    let act = put(alloc, numbers)?;
+    does(alloc, engine, session, &act, said)
+}
+
 /// Offers an eleventh row to a transaction, which can then go on and be undone.
 fn eleventh(
     alloc: Global,
@@ -387,8 +424,7 @@ fn eleventh(
     requires alone { live (past engine.old) ≡ record { session = session; caller = 7 } ∷ [] }
     requires tables { length engine.old.defs ≡ 2 }
 {
-    let last = put(alloc, &[11, 7, 1])?;
-    does(alloc, engine, session, &last, said)?;
+    puts_in(alloc, engine, session, &[11, 7, 1], said)?;
     let refused = close(engine, session, 0);
     let text = format!(in alloc; "{refused:?}\n")?;
     said.extend_from_slice(text.as_bytes())?;
@@ -399,8 +435,7 @@ fn eleventh(
 fn undoes(alloc: Global, engine: &mut Engine, session: u64, said: &mut Vec<u8>) -> Result<(), Fail>
     requires { length engine.old.defs ≡ 2 }
 {
-    let show = Act::Show { table: Id(0) };
-    does(alloc, engine, session, &show, said)?;
+    shows_in(alloc, engine, session, 0, said)?;
     let undone = engine.undo(session);
     let text = format!(in alloc; "{undone:?}\n")?;
     said.extend_from_slice(text.as_bytes())?;

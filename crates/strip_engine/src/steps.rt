@@ -156,6 +156,7 @@ fn replies(
             let reply = show(alloc, tables.as_slice(), holds, *table)?;
             twice(alloc, reply)
         }
+        _ => unreachable!(),
     }
 }
 

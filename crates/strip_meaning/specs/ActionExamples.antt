@@ -24,7 +24,6 @@ use Rattle.strip_value.specs.declared.values.Value.TheVariants.{Int}
 use Rattle.strip_value.specs.Query.{mean}
 use Rattle.strip_meaning.specs.Firing.{fired}
 use Rattle.strip_meaning.specs.Maintained.{Manner, keep_function, keep_rule}
-use Rattle.strip_meaning.specs.Moved.{moved}
 use Rattle.strip_meaning.specs.Actions.{Happened, commit, start, finish, give_back, BoundRow, rows_of, state_of, pending, is_quiet, next, due_of, actions}
 use Rattle.strip_meaning.specs.Contents.{contents, summed_up}
 

@@ -1,8 +1,7 @@
 -- Which course of events there can be, and what its actions are where no rule is `unique`.
-use Rattle.std.specs.Prelude.{◌≡◌, ℕ, ◌+◌, ◌<◌, ◌≤◌, Bool, List, [], ◌∷◌, ◌++◌, map, length, Option, Some, None}
-use Rattle.std.specs.List.{AllByRecursion, flat_map}
+use Rattle.std.specs.Prelude.{◌≡◌, ℕ, ◌+◌, ◌<◌, ◌≤◌, List, [], ◌∷◌, ◌++◌, map, length, Some, None}
+use Rattle.std.specs.List.{AllByRecursion}
 use Rattle.strip_value.specs.declared.actions.ActionId.{ActionId}
-use Rattle.strip_value.specs.declared.actions.Bound.{Bound}
 use Rattle.strip_value.specs.declared.actions.FiredRule.{FiredRule}
 use Rattle.strip_value.specs.declared.actions.KeyOf.TheVariants.{Plain}
 use Rattle.strip_value.specs.declared.rules.Rule.{Rule}

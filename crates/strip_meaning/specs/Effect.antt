@@ -95,11 +95,12 @@ full id (Some limit) = Some (Full id limit)
 abbrev pub misfit : List ColumnDef → List Value → Option ActError
 misfit columns row = or_cause (kind_mismatch 1 columns row) (out_of_range 1 columns row)
 
--- why an act is refused: the first cause that applies
+-- why an act is refused: the first cause that applies. Of acts this has those that are built, `Put` and `Show`
 abbrev pub refusal : Holds → List Keyed → Act → Option ActError
 refusal holds tables (Put id row) =
     or_cause (not_held holds id) (or_cause (read_only holds id) (or_cause (derived (table_at tables id).def id) (or_cause (misfit (table_at tables id).def.columns row) (full id (full_at (table_at tables id) row)))))
 refusal holds tables (Show id) = not_held holds id
+refusal holds tables _ = None
 
 pub record Effect : Type 0 where
   pub tables : List Keyed
@@ -111,7 +112,7 @@ abbrev pub put_shift : Option (List Value) → List Value → Shift
 put_shift None row = Inserted row
 put_shift (Some old) row = Changed old row
 
--- what an act does that isn't refused
+-- what an act does that isn't refused; one that isn't built does nothing
 abbrev pub done : List Keyed → Act → Effect
 done tables (Put id row) = record {
   tables = with_rows tables id (with_row (table_at tables id).def.key (table_at tables id).rows row);
@@ -119,6 +120,7 @@ done tables (Put id row) = record {
   changes = record { table = id; shift = put_shift (row_at (table_at tables id).def.key (table_at tables id).rows (key_of (table_at tables id).def.key row)) row } ∷ [];
 }
 done tables (Show id) = record { tables = tables; reply = Rows (table_at tables id).rows; changes = [] }
+done tables _ = record { tables = tables; reply = Count 0; changes = [] }
 
 -- a refused act changes nothing
 abbrev pub unless : Option ActError → List Keyed → Effect → Effect

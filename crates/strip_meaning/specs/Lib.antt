@@ -6,5 +6,6 @@ pub mod Firing
 pub mod Maintained
 pub mod Actions
 pub mod Contents
+pub mod First
 pub mod Course
 pub mod ActionExamples

@@ -1,11 +1,9 @@
--- The function and the rule that keep a derived table by sums of what changes.
-use Rattle.std.specs.Prelude.{ℕ, pos, codes, List, [], ◌∷◌, ◌++◌, map, Option, Some, None, get_or}
+-- The functions and the rules that keep derived tables: by sums of what changes, or by computing anew the rows of its keys.
+use Rattle.std.specs.Prelude.{ℕ, pos, codes, Bool, true, false, List, [], ◌∷◌, ◌++◌, map, filter, Option, Some, None, get_or}
 use Rattle.strip_value.specs.declared.expressions.Calc.{Calc}
 use Rattle.strip_value.specs.declared.expressions.Calc.TheVariants.{Number}
-use Rattle.strip_value.specs.declared.kinds.Kind.TheVariants as kind
 use Rattle.strip_value.specs.declared.queries.Input.{Input}
 use Rattle.strip_value.specs.declared.queries.Input.TheVariants as input
-use Rattle.strip_value.specs.declared.queries.Item.{Item}
 use Rattle.strip_value.specs.declared.queries.Query.{Query}
 use Rattle.strip_value.specs.declared.queries.What.{What}
 use Rattle.strip_value.specs.declared.queries.What.TheVariants.{Plain, Sum, Count}
@@ -13,9 +11,10 @@ use Rattle.strip_value.specs.declared.rules.BoundQuery.{BoundQuery}
 use Rattle.strip_value.specs.declared.rules.Event.TheVariants.{Inserted, Deleted, Updated}
 use Rattle.strip_value.specs.declared.rules.Function.{Function}
 use Rattle.strip_value.specs.declared.rules.Rule.{Rule}
-use Rattle.strip_value.specs.declared.rules.Step.TheVariants.{Add}
+use Rattle.strip_value.specs.declared.rules.Step.TheVariants.{Add, Redo}
 use Rattle.strip_value.specs.declared.tables.TableDef.{TableDef}
 use Rattle.strip_value.specs.Trees as tree
+use Rattle.strip_meaning.specs.Contents.{key_columns}
 
 -- a total of a row that comes, and of one that goes
 abbrev pub coming : Calc → Calc
@@ -84,3 +83,36 @@ keep_rule def query function manner = record {
   unique = manner.unique;
   after = manner.after;
 }
+
+-- ---- by key
+
+-- neither a sum nor a count
+abbrev pub is_plain : What → Bool
+is_plain (Plain e) = true
+is_plain _ = false
+
+-- the keys that single rows of a transition table have in the table's query
+abbrev pub keys_query : Input → Query → Query
+keys_query from query = record {
+  items = filter (λ item. is_plain item.what) query.items;
+  entries = from ∷ [];
+  filter = query.filter;
+  group = None;
+}
+
+-- of added, removed and replaced rows, these as they were and as they are
+abbrev pub keys_queries : Query → List BoundQuery
+keys_queries query =
+    map (λ from. binds (keys_query from query)) (input.Inserted ∷ input.Deleted ∷ input.Old ∷ input.New ∷ [])
+
+-- the function: it computes anew the rows of the table of this number whose keys the bound rows are
+abbrev pub redo_function : TableDef → ℕ → Function
+redo_function def table = record {
+  name = keep_name def;
+  steps = Redo table 0 ∷ [];
+  bound = record { name = codes "delta_" ++ def.name; columns = key_columns def } ∷ [];
+}
+
+-- the rule: at each change of the table that the query reads
+abbrev pub redo_rule : TableDef → Query → ℕ → Manner → Rule
+redo_rule def query function manner = record (keep_rule def query function manner) { evaluate = keys_queries query }

@@ -33,10 +33,11 @@ conflict one other = meet one.write other.write || meet one.write other.read || 
 abbrev pub IsOpen : List Entry → ℕ → ℕ → Type 0
 IsOpen past caller session = IsTrue (list_any (λ l. l.session == session && l.caller == caller) (live past))
 
--- the tables that the act names are there
+-- the act is one that is built, `Put` or `Show`, and the table that it names is there
 abbrev pub Names : ℕ → Act → Type 0
 Names count (Put id row) = id < count
 Names count (Show id) = id < count
+Names count _ = ⊥
 
 -- what an act is answered within a session
 abbrev pub reply_of : Fixed → List Entry → ℕ → Act → Reply

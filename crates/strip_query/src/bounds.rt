@@ -42,7 +42,7 @@ pub fn column_kind(kinds: &Kinds, entry: u32, column: u32) -> Kind
 }
 
 /// How far from 0 a value of the kind can be.
-fn kind_magnitude(kind: Kind) -> u128
+pub fn kind_magnitude(kind: Kind) -> u128
     ensures { result ≡ kind_magnitude kind }
 {
     match kind {
@@ -52,13 +52,15 @@ fn kind_magnitude(kind: Kind) -> u128
     }
 }
 
-fn capped_sum(left: u128, right: u128) -> u128
+/// The sum of two bounds.
+pub fn capped_sum(left: u128, right: u128) -> u128
     ensures { result ≡ capped (left + right) }
 {
     left.saturating_add(right).min(CAP)
 }
 
-fn capped_product(left: u128, right: u128) -> u128
+/// The product of two bounds.
+pub fn capped_product(left: u128, right: u128) -> u128
     ensures { result ≡ capped (left * right) }
 {
     left.saturating_mul(right).min(CAP)

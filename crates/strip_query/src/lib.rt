@@ -4,7 +4,7 @@
 mod bounds;
 pub mod laws;
 
-pub use bounds::{column_kind, magnitude};
+pub use bounds::{capped_product, capped_sum, column_kind, kind_magnitude, magnitude};
 pub use strip_value::{
     Act, Calc, Cmp, Input, Item, ItemList, Kind, KindList, Kinds, Place, PlaceList, Query, Set,
     SetList, Test, What,

@@ -1,16 +1,43 @@
 use crate::copies::Duplicate;
+use crate::expressions::Test;
 use crate::ids::{Id, Ids};
 use crate::items::Items;
+use crate::queries::{Query, SetList};
 use crate::rows::{Row, RowList};
 use std::alloc::{AllocError, Global};
 
 /// What a transaction does to its tables, one act at a time. Each is all or nothing.
 #[derive(Debug, Drop)]
 pub enum Act {
+    /// Adds the rows.
+    Insert {
+        table: Id,
+        rows: RowList,
+    },
     /// Adds the row, or replaces the row of its key.
-    Put { table: Id, row: Row },
+    Put {
+        table: Id,
+        row: Row,
+    },
+    /// Sets columns of the rows that satisfy the filter, each new row computed from its old row.
+    Update {
+        table: Id,
+        sets: SetList,
+        filter: Test,
+    },
+    /// Removes the rows that satisfy the filter.
+    Delete {
+        table: Id,
+        filter: Test,
+    },
+    /// Answers the rows of the query.
+    Select {
+        query: Query,
+    },
     /// Answers all rows of the table.
-    Show { table: Id },
+    Show {
+        table: Id,
+    },
 }
 
 /// Acts, in their order.
@@ -57,10 +84,40 @@ pub struct Holds {
 impl Duplicate for Act {
     fn copy(&self, alloc: Global) -> Result<Act, AllocError> {
         match self {
+            Act::Insert { table, rows } => {
+                let rows = rows.copy(alloc)?;
+                Ok(Act::Insert {
+                    table: *table,
+                    rows,
+                })
+            }
             Act::Put { table, row } => {
                 let row = row.copy(alloc)?;
                 Ok(Act::Put { table: *table, row })
             }
+            Act::Update {
+                table,
+                sets,
+                filter,
+            } => {
+                let sets = sets.copy(alloc)?;
+                let filter = filter.copy(alloc)?;
+                Ok(Act::Update {
+                    table: *table,
+                    sets,
+                    filter,
+                })
+            }
+            Act::Delete { table, filter } => {
+                let filter = filter.copy(alloc)?;
+                Ok(Act::Delete {
+                    table: *table,
+                    filter,
+                })
+            }
+            Act::Select { query } => Ok(Act::Select {
+                query: query.copy(alloc)?,
+            }),
             Act::Show { table } => Ok(Act::Show { table: *table }),
         }
     }

@@ -7,8 +7,6 @@ mod actions;
 mod acts;
 mod changes;
 mod copies;
-#[cfg(test)]
-mod copy_tests;
 mod errors;
 mod expressions;
 mod ids;

@@ -1,5 +1,5 @@
 use Rattle.std.proofs.Common.{◌≤◌, ◌^◌, ◌∙◌, sym, subst}
-use Rattle.strip_engine.specs.Setup.{IsBase}
+use Rattle.strip_meaning.specs.First.{IsBase}
 use Rattle.strip.specs.Stages.{IsOver}
 use Rattle.strip.proofs.SoundLaws.{over_of}
 use Rattle.strip.proofs.script.derive.Goals as goal
