@@ -22,6 +22,7 @@ const LEAST_WIDE: u128 = 1 << 63;
 
 // ---- kinds
 
+/// Whether the two kinds are one.
 pub fn is_same_kind(kind: Kind, other: Kind) -> bool
     ensures { result ≡ same_kind kind other }
 {

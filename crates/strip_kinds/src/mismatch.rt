@@ -59,6 +59,7 @@ fn differ(one: bool, other: bool) -> bool
 
 // ---- expressions
 
+/// Whether values of the kind are texts.
 pub fn is_text_kind(kind: Kind) -> bool
     ensures { result ≡ is_text_kind kind }
 {
@@ -82,6 +83,7 @@ fn is_text(entries: &[Entry], expr: &Expr) -> bool
     }
 }
 
+/// Whether the expression is a truth value.
 pub fn is_truth(expr: &Expr) -> bool
     ensures { result ≡ is_truth expr.now }
 {

@@ -63,8 +63,8 @@ fn refuse_if(alloc: Global, is_taken: bool, name: &Name) -> Result<(), SetupErro
     }
 }
 
-/// No name stands twice.
-fn check_repeated(alloc: Global, names: &[Name]) -> Result<(), SetupError>
+/// The first name that stands twice.
+pub fn check_repeated(alloc: Global, names: &[Name]) -> Result<(), SetupError>
     ensures { Checks (option_map Exists (first (repeated names.now))) result }
 {
     for (i, name) in names.iter().enumerate() {
@@ -323,7 +323,8 @@ fn check_queries(alloc: Global, queries: &[BoundTree]) -> Result<(), SetupError>
     Ok(())
 }
 
-fn check_deed(alloc: Global, deed: &Deed) -> Result<(), SetupError>
+/// The first name of an act that is taken: a column that is set twice, or a name that stands twice in a query.
+pub fn taken_in_deed(alloc: Global, deed: &Deed) -> Result<(), SetupError>
     ensures { Checks (option_map Exists (first (taken_in_deed deed.now))) result }
 {
     match deed {
@@ -377,7 +378,7 @@ pub fn exists(alloc: Global, setup: &Setup<'_>, statement: &Statement) -> Result
             check_queries(alloc, evaluate.as_slice())?;
             check_action(alloc, setup, function, manner)
         }
-        Statement::Deed { deed, .. } => check_deed(alloc, deed),
+        Statement::Deed { deed, .. } => taken_in_deed(alloc, deed),
         _ => Ok(()),
     }
 }

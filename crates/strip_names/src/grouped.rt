@@ -22,7 +22,7 @@ fn is_total(what: &What) -> bool
 }
 
 /// Whether the item is this group column.
-fn is_group_column(what: &What, place: &Place) -> bool
+pub fn is_group_column(what: &What, place: &Place) -> bool
     ensures { result ≡ is_group_column what.now place.now }
 {
     match what {
@@ -50,6 +50,7 @@ fn is_misplaced(group: &Option<PlaceList>, what: &What) -> bool
     }
 }
 
+/// Whether the query has an item that may not stand there: a total without groups, or a plain item that is no group column.
 pub fn has_misplaced(query: &Query) -> bool
     ensures { result ≡ has_misplaced query.now }
 {

@@ -114,7 +114,8 @@ fn check_queries(conditions: &[BoundTree], evaluate: &[BoundTree]) -> Result<(),
     Ok(())
 }
 
-fn check_deed(deed: &Deed) -> Result<(), SetupError>
+/// The first limit that an act passes.
+pub fn limits_in_deed(deed: &Deed) -> Result<(), SetupError>
     ensures { Checks (first (limits_in_deed deed.now)) result }
 {
     match deed {
@@ -158,7 +159,7 @@ pub fn limit(setup: &Setup<'_>, statement: &Statement) -> Result<(), SetupError>
             check_queries(conditions.as_slice(), evaluate.as_slice())?;
             check_delay(manner.after)
         }
-        Statement::Deed { deed, .. } => check_deed(deed),
+        Statement::Deed { deed, .. } => limits_in_deed(deed),
         _ => Ok(()),
     }
 }

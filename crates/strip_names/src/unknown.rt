@@ -331,7 +331,8 @@ fn check_delete(
     check_filter(alloc, entries.as_slice(), filter)
 }
 
-fn check_deed(alloc: Global, tables: &[TableDef], deed: &Deed) -> Result<(), SetupError>
+/// The first name in an act of what isn't there.
+pub fn unknown_in_deed(alloc: Global, tables: &[TableDef], deed: &Deed) -> Result<(), SetupError>
     ensures { Checks (option_map Unknown (first (unknown_in_deed tables.now deed.now))) result }
 {
     match deed {
@@ -454,7 +455,7 @@ pub fn unknown(alloc: Global, setup: &Setup<'_>, statement: &Statement) -> Resul
             )?;
             check_function(alloc, setup.functions(), function)
         }
-        Statement::Deed { deed, .. } => check_deed(alloc, tables, deed),
+        Statement::Deed { deed, .. } => unknown_in_deed(alloc, tables, deed),
         _ => Ok(()),
     }
 }

@@ -8,3 +8,4 @@ pub mod Declared
 pub mod Numbered
 pub mod Firsts
 pub mod Filters
+pub mod ActParts

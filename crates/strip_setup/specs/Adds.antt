@@ -10,7 +10,8 @@ use Rattle.strip_ast.specs.declared.rules.BoundTree.{BoundTree}
 use Rattle.strip_ast.specs.declared.rules.StepTree.{StepTree}
 use Rattle.strip_ast.specs.declared.statements.Statement.{Statement}
 use Rattle.strip_ast.specs.declared.statements.Statement.TheVariants as st
-use Rattle.strip_setup.specs.Catalog.{Catalog, function_number}
+use Rattle.strip_setup.specs.Catalog.{Catalog, function_number, table_id}
+use Rattle.strip_setup.specs.Maintain.{manner_of, with_kept}
 use Rattle.strip_setup.specs.Resolve.{kept_name, kind_of_step}
 use Rattle.strip_setup.specs.Resolve.{table_of, derived_of, stream_of, function_of, rule_of, function_at, bound_with, bindings_of, in_rule}
 
@@ -46,5 +47,6 @@ with_statement catalog (st.Rule name table events conditions evaluate function m
   functions = functions_with_rule catalog function table (conditions ++ evaluate);
   rules = catalog.rules ++ rule_of catalog name table events conditions evaluate function manner ∷ [];
 }
+with_statement catalog (st.Maintain name how manner) = with_kept catalog (table_id catalog.tables name) how (manner_of manner)
 with_statement catalog st.Ready = record catalog { closed = true }
 with_statement catalog _ = catalog

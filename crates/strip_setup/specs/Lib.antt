@@ -8,4 +8,5 @@ pub mod Parts
 pub mod Checks
 pub mod Codes
 pub mod Small
+pub mod Maintain
 pub mod Adds

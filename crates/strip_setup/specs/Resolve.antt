@@ -18,6 +18,10 @@ use Rattle.strip_value.specs.declared.tables.By.{By}
 use Rattle.strip_value.specs.declared.tables.By.TheVariants as by
 use Rattle.strip_value.specs.declared.tables.ColumnDef.{ColumnDef}
 use Rattle.strip_value.specs.declared.tables.TableDef.{TableDef}
+use Rattle.strip_value.specs.declared.acts.Act.{Act}
+use Rattle.strip_value.specs.declared.acts.Act.TheVariants as act
+use Rattle.strip_ast.specs.declared.deeds.Deed.{Deed}
+use Rattle.strip_ast.specs.declared.deeds.Deed.TheVariants as deed
 use Rattle.strip_ast.specs.declared.deeds.SetTree.{SetTree}
 use Rattle.strip_ast.specs.declared.queries.ColTree.{ColTree}
 use Rattle.strip_ast.specs.declared.queries.QueryTree.{QueryTree}
@@ -30,7 +34,7 @@ use Rattle.strip_ast.specs.declared.rules.StepTree.TheVariants as step_tree
 use Rattle.strip_setup.specs.declared.answers.Binding.{Binding}
 use Rattle.strip_setup.specs.declared.scope.Entry.{Entry}
 use Rattle.strip_setup.specs.Catalog.{Catalog, each_once, table_id, table_named, function_number, function_named, column_number, columns_of}
-use Rattle.strip_setup.specs.Queries.{Scope, calc_of, query_of, answers_of, as_columns}
+use Rattle.strip_setup.specs.Queries.{Scope, calc_of, filter_of, own_entry, query_of, answers_of, as_columns}
 
 -- the number of a column; one that isn't there is the first
 abbrev pub number_in : List ColumnDef → List ℕ → ℕ
@@ -199,3 +203,17 @@ rule_of catalog name table events conditions evaluate function manner =
 -- what an update sets, over the one entry of its table
 abbrev pub sets_of : List Entry → List ColumnDef → List SetTree → List Set
 sets_of entries columns sets = map (λ s. record { column = number_in columns s.column; value = calc_of entries s.value }) sets
+
+-- ---- acts
+
+-- what an act stands for; what is no act shows the first table
+abbrev pub act_of : List TableDef → Deed → Act
+act_of tables (deed.Insert table rows) = act.Insert (table_id tables table) rows
+act_of tables (deed.Put table row) = act.Put (table_id tables table) row
+act_of tables (deed.Update table sets filter) =
+    let entries = own_entry tables table in
+    act.Update (table_id tables table) (sets_of entries (columns_of (table_named tables table)) sets) (filter_of entries filter)
+act_of tables (deed.Delete table filter) = act.Delete (table_id tables table) (filter_of (own_entry tables table) filter)
+act_of tables (deed.Select query) = act.Select (query_of (outside_rules tables) query)
+act_of tables (deed.Show table) = act.Show (table_id tables table)
+act_of tables _ = act.Show 0

@@ -108,7 +108,7 @@ fn kept_by(steps: &[StepTree], table: &TableDef) -> Option<By>
     }
 }
 
-/// The tables, of which these steps keep some.
+/// The tables once a function with these steps is there: each table that a step keeps is marked as kept by that kind of step.
 pub fn kept_by_steps(
     alloc: Global,
     tables: &[TableDef],
@@ -334,7 +334,7 @@ fn function_id(functions: &[Function], function: &Name) -> u32
     }
 }
 
-/// A rule.
+/// The rule that a `rule` statement declares.
 pub fn rule_of(
     alloc: Global,
     tables: &[TableDef],
@@ -394,7 +394,8 @@ fn rebound(
     Ok(FunctionList::from_vec(made))
 }
 
-/// The functions once a rule of that one is there: its bound tables have the columns that the rule binds.
+/// The functions once a rule that executes this one is there: the bound tables of the function have the columns that the
+/// rule binds.
 pub fn functions_with_rule(
     alloc: Global,
     tables: &[TableDef],

@@ -2,6 +2,7 @@
 //! declare. And why such a statement is refused.
 #![tactic(auto)]
 
+pub mod acts;
 pub mod answers;
 pub mod calculations;
 pub mod declares;

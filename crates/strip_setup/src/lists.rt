@@ -4,6 +4,7 @@ ghost use Rattle.std.specs.Prelude.{◌≡◌, IfOk};
 use std::alloc::{AllocError, Global};
 use strip_value::{Duplicate, Items};
 
+/// A list of copies of these items.
 pub fn copied<T: Duplicate>(alloc: Global, items: &[T]) -> Result<Items<T>, AllocError>
     ensures { IfOk result (λ made. made ≡ items.now) }
 {

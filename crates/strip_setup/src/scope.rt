@@ -40,6 +40,7 @@ pub struct Entry {
 pub type EntryList = Items<Entry>;
 
 impl<'a> Scope<'a> {
+    /// Where a query outside rules stands: it may name tables alone.
     pub fn outside_rules(tables: &'a [TableDef]) -> Scope<'a>
         ensures { result ≡ outside_rules tables.now }
     {
@@ -60,12 +61,14 @@ impl<'a> Scope<'a> {
         }
     }
 
+    /// The tables that may be named.
     pub fn tables(&self) -> &'a [TableDef]
         ensures { result.now ≡ self.now.tables }
     {
         self.tables
     }
 
+    /// Whether transition tables may be named.
     pub fn is_in_rule(&self) -> bool
         ensures { result ≡ is_some self.now.changed }
     {

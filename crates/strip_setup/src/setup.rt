@@ -34,6 +34,7 @@ impl<'a> Model for Setup<'a> {
 }
 
 impl<'a> Setup<'a> {
+    /// The parts of a catalog, lent.
     pub fn new(
         tables: &'a [TableDef],
         streams: &'a [Stream],
@@ -59,18 +60,21 @@ impl<'a> Setup<'a> {
         self.tables
     }
 
+    /// The streams, by their numbers.
     pub fn streams(&self) -> &'a [Stream]
         ensures { result.now ≡ self.now.streams }
     {
         self.streams
     }
 
+    /// The functions, by their numbers.
     pub fn functions(&self) -> &'a [Function]
         ensures { result.now ≡ self.now.functions }
     {
         self.functions
     }
 
+    /// The rules, by their numbers.
     pub fn rules(&self) -> &'a [Rule]
         ensures { result.now ≡ self.now.rules }
     {

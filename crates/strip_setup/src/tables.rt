@@ -23,6 +23,7 @@ pub fn number_in(columns: &[ColumnDef], name: &Name) -> u32
     }
 }
 
+/// The numbers of columns, in the order of the names.
 pub fn numbers_in(
     alloc: Global,
     columns: &[ColumnDef],
@@ -50,7 +51,7 @@ pub fn table_id(tables: &[TableDef], name: &Name) -> Id
     }
 }
 
-/// A base table.
+/// The base table that a `table` statement declares. Meant for a statement that isn't refused, as all of these calls.
 pub fn table_of(
     alloc: Global,
     name: &Name,
@@ -86,7 +87,7 @@ fn key_numbers(table: Option<&TableDef>) -> &[u32]
     }
 }
 
-/// A stream into a table.
+/// The stream that a `stream` statement declares.
 pub fn stream_of(
     alloc: Global,
     tables: &[TableDef],

@@ -1,5 +1,5 @@
 use Rattle.strip_names.proofs.Absent.{select_checked}
-use Rattle.strip_names.proofs.unknown.check_deed.Goals as goal
+use Rattle.strip_names.proofs.unknown.unknown_in_deed.Goals as goal
 
 pub returns-in-Select : goal.returns-in-Select
 returns-in-Select c =
