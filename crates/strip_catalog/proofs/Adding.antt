@@ -3,20 +3,21 @@ use Rattle.std.proofs.Common.{◌≡◌, Bool, true, false, [], ◌∷◌, None,
 use Rattle.strip_ast.specs.declared.statements.Statement.{Statement}
 use Rattle.strip_ast.specs.declared.statements.Statement.TheVariants as st
 use Rattle.strip_setup.specs.declared.errors.SetupError.TheVariants.{Closed}
-use Rattle.strip_catalog.specs.Accepted.{IsDeclared}
+use Rattle.strip_catalog.specs.Accepted.{IsDeclared, IsWritten}
 use Rattle.strip_setup.specs.Adds.{with_statement}
 use Rattle.strip_setup.specs.Catalog.{Catalog, refused_if}
 use Rattle.strip_catalog.specs.Refusals.{first_cause, refusal}
 use Rattle.strip_catalog.specs.Calls.{IsAdded, with_addition}
 use Rattle.strip_catalog.specs.Laws.{IsSmall}
 use Rattle.strip_catalog.specs.declared.additions.Addition.{Addition}
+use Rattle.strip_catalog.proofs.InGrammar.{ready_written}
 use Rattle.strip_catalog.proofs.Sizes.{small}
 
 -- a statement that isn't refused declares one more
-pub still_declared : (catalog : Catalog) (statement : Statement) → IsDeclared catalog → refusal catalog statement ≡ None → IsDeclared (with_statement catalog statement)
-still_declared catalog statement is none = record {
+pub still_declared : (catalog : Catalog) (statement : Statement) → IsDeclared catalog → IsWritten statement → refusal catalog statement ≡ None → IsDeclared (with_statement catalog statement)
+still_declared catalog statement is written none = record {
   statements = statement ∷ is.statements;
-  accepted = (is.accepted, subst (λ c. refusal c statement ≡ None) is.is none);
+  accepted = (is.accepted, written, subst (λ c. refusal c statement ≡ None) is.is none);
   is = ap (λ c. with_statement c statement) is.is;
 }
 
@@ -34,14 +35,14 @@ unfolding with_statement
 ready_closes catalog = refl
 
 pub ready_declared : (catalog : Catalog) → IsDeclared catalog → catalog.closed ≡ false → IsDeclared (record catalog { closed = true })
-ready_declared catalog is unclosed = subst IsDeclared (ready_closes catalog) (still_declared catalog st.Ready is (ready_refused catalog ∙ ap (λ b. refused_if b Closed) unclosed))
+ready_declared catalog is unclosed = subst IsDeclared (ready_closes catalog) (still_declared catalog st.Ready is ready_written (ready_refused catalog ∙ ap (λ b. refused_if b Closed) unclosed))
 
 -- ---- what a catalog lends to the checks
 
 pub lent_small : (inside now lent : Catalog) → inside ≡ now → lent ≡ now → IsDeclared inside → IsSmall lent
 lent_small inside now lent inside_is lent_is is = small lent (subst IsDeclared (inside_is ∙ sym lent_is) is)
 
-pub added_declared : (inside now lent : Catalog) (statement : Statement) (one : Addition) → inside ≡ now → lent ≡ now → IsDeclared inside → refusal lent statement ≡ None → IsAdded lent statement one → IsDeclared (with_addition now one)
-added_declared inside now lent statement one inside_is lent_is is none added =
+pub added_declared : (inside now lent : Catalog) (statement : Statement) (one : Addition) → inside ≡ now → lent ≡ now → IsDeclared inside → IsWritten statement → refusal lent statement ≡ None → IsAdded lent statement one → IsDeclared (with_addition now one)
+added_declared inside now lent statement one inside_is lent_is is written none added =
     subst (λ c. IsDeclared (with_addition c one)) lent_is
-    (subst IsDeclared added (still_declared lent statement (subst IsDeclared (inside_is ∙ sym lent_is) is) none))
+    (subst IsDeclared added (still_declared lent statement (subst IsDeclared (inside_is ∙ sym lent_is) is) written none))

@@ -10,15 +10,18 @@ use Rattle.strip_ast.specs.declared.statements.Statement.{Statement}
 use Rattle.strip_ast.specs.declared.statements.Statement.TheVariants as st
 use Rattle.strip_setup.specs.declared.answers.Binding.{Binding}
 use Rattle.strip_setup.specs.declared.errors.LimitKind.TheVariants as kind
+use Rattle.strip_meaning.specs.Contents.{def_at}
 use Rattle.strip_catalog.specs.Accepted.{AreAccepted, IsDeclared, declared}
 use Rattle.strip_setup.specs.Adds.{with_bound, with_statement}
-use Rattle.strip_setup.specs.Catalog.{Catalog, each_once, function_named, function_number}
+use Rattle.strip_setup.specs.Catalog.{Catalog, each_once, function_named, function_number, table_id}
+use Rattle.strip_setup.specs.Maintain.{made_function}
 use Rattle.strip_names.specs.Limits.{limits_in_bound, limits_in_query, more_than}
 use Rattle.strip_setup.specs.Queries.{Scope}
 use Rattle.strip_catalog.specs.Refusals.{refusal}
 use Rattle.strip_setup.specs.Resolve.{binding_of, bindings_of, bound_name, bound_with, columns_bound, columns_so_far, function_at, function_of, in_rule, names_with, no_function}
 use Rattle.strip_catalog.proofs.Causes.{at_most, both_empty}
 use Rattle.strip_catalog.proofs.Fitting.{function_few, rule_limits, within}
+use Rattle.strip_catalog.proofs.Named.{made_bound}
 use Rattle.strip_setup.proofs.Once.{each_fewer, few_named}
 
 -- ---- what a rule binds
@@ -101,14 +104,20 @@ with_few catalog (st.Rule name table events conditions evaluate function manner)
     let len = length-map (names_with f.bound bindings) with_columns in
     subst (λ m. BindFew m (with_bound catalog.functions (function_number catalog.functions function) f (bound_with f.bound bindings))) (sym (length-append catalog.rules (_ ∷ [])))
     (bound_few_by (n + 1) catalog.functions (function_number catalog.functions function) f (bound_with f.bound bindings) (one_rule_more n catalog.functions few) (omega (arith, before, names, fewer, queries, len)))
-with_few catalog (st.Maintain name by manner) e few = few
+with_few catalog (st.Maintain name how manner) e few =
+    let n = length catalog.rules in
+    let id = table_id catalog.tables name in
+    let f = made_function how (def_at catalog.tables id) id in
+    let one = made_bound how (def_at catalog.tables id) id in
+    subst (λ m. BindFew m (catalog.functions ++ f ∷ [])) (sym (length-append catalog.rules (_ ∷ [])))
+    (all_append (BindsFew (n + 1)) catalog.functions (f ∷ []) (one_rule_more n catalog.functions few) (omega (arith, one), tt))
 with_few catalog st.Ready e few = few
 with_few catalog (st.At moment) e few = few
 with_few catalog (st.Deed caller deed) e few = few
 
 all_few : (statements : List Statement) → AreAccepted statements → BindFew (length (declared statements).rules) (declared statements).functions
 all_few [] accepted = tt
-all_few (statement ∷ earlier) accepted = with_few (declared earlier) statement accepted.1 (all_few earlier accepted.0)
+all_few (statement ∷ earlier) accepted = with_few (declared earlier) statement accepted.2 (all_few earlier accepted.0)
 
 -- each function of a catalog has so few bound tables
 pub functions_bind_few : (catalog : Catalog) → IsDeclared catalog → AllByRecursion (λ f. length f.bound ≤ 4 + 8 * length catalog.rules) catalog.functions

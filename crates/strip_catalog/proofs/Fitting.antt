@@ -18,10 +18,10 @@ use Rattle.strip_setup.specs.Catalog.{Catalog}
 use Rattle.strip_names.specs.Limits.{limit, limit_if, limit_of_rows, limits, limits_in_bound, limits_in_query, more_than, most_entries, one_more_than}
 use Rattle.strip_catalog.specs.Refusals.{refusal}
 use Rattle.strip_setup.specs.Resolve.{most_rows}
-use Rattle.strip_catalog.proofs.Causes.{at_most, both_empty, no_cause, none_there}
+use Rattle.strip_catalog.proofs.Causes.{at_most, both_empty, no_other_cause, none_there}
 
 pub within : (catalog : Catalog) (statement : Statement) → refusal catalog statement ≡ None → limit catalog statement ≡ None
-within catalog statement e = (no_cause catalog statement e).1.1.1.0
+within catalog statement e = (no_other_cause catalog statement e).1.1.1.0
 
 -- ---- tables
 

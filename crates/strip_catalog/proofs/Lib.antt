@@ -1,6 +1,11 @@
 -- What is proved of catalogs.
 pub mod Adding
+pub mod Kept
+pub mod MadeNames
+pub mod MadeRules
 pub mod Causes
+pub mod Named
+pub mod InGrammar
 pub mod Sizes
 pub mod BoundSizes
 pub mod Fitting
@@ -9,3 +14,12 @@ pub mod Added
 pub mod OwnNames
 pub mod Numbering
 pub mod Refused
+pub mod SoundKept
+pub mod SoundBase
+pub mod SoundFound
+pub mod SoundFirst
+pub mod SoundDerived
+pub mod Sound
+pub mod InTurn
+pub mod ActCauses
+pub mod Installed

@@ -1,9 +1,10 @@
 -- Names and numbers are one to one: of what is declared each has a name of its own.
-use Rattle.std.proofs.Common.{◌≡◌, ℕ, zero, suc, ◌+◌, ◌≤◌, Bool, true, false, ◌||◌, cond, List, [], ◌∷◌, ◌++◌, map, set, Option, Some, None, find, is_some, bytes_eq, refl, sym, ap, ap₂, ◌∙◌, subst, arith, unwrap_or}
+use Rattle.std.proofs.Common.{◌≡◌, ℕ, zero, suc, ◌+◌, ◌≤◌, Bool, true, false, ◌||◌, cond, List, [], ◌∷◌, ◌++◌, length, map, set, Option, Some, None, find, is_some, bytes_eq, refl, sym, ap, ap₂, ◌∙◌, subst, arith, unwrap_or}
 use Rattle.std.specs.List.{position_from}
 use Rattle.std.proofs.lemmas.Iterator.Adapters.{position_from-zero}
 use Rattle.std.proofs.lemmas.Slice.Eq.{bytes_eq-Decides}
 use Rattle.std.proofs.lemmas.List.{map-append}
+use Rattle.std.proofs.Math.Seq.{map-set_same}
 use Rattle.strip_value.specs.declared.rules.BoundDef.{BoundDef}
 use Rattle.strip_value.specs.declared.rules.Function.{Function}
 use Rattle.strip_value.specs.declared.rules.Rule.{Rule}
@@ -12,13 +13,17 @@ use Rattle.strip_value.specs.declared.tables.TableDef.{TableDef}
 use Rattle.strip_ast.specs.declared.rules.StepTree.{StepTree}
 use Rattle.strip_ast.specs.declared.statements.Statement.{Statement}
 use Rattle.strip_ast.specs.declared.statements.Statement.TheVariants as st
+use Rattle.strip_meaning.specs.Contents.{def_at}
+use Rattle.strip_meaning.specs.Effect.{no_table}
 use Rattle.strip_catalog.specs.Accepted.{AreAccepted, declared}
 use Rattle.strip_setup.specs.Adds.{kept_by_steps, with_bound, with_statement}
-use Rattle.strip_setup.specs.Catalog.{Catalog, function_named, function_number, has_name, name_if}
+use Rattle.strip_setup.specs.Catalog.{Catalog, function_named, function_number, has_name, name_if, rule_named, table_id}
+use Rattle.strip_setup.specs.Maintain.{function_name, made_function, made_rule, manner_of, rule_name}
 use Rattle.strip_catalog.specs.Laws.{AreApart, HasOwnNames, NamesAreTheirOwn}
 use Rattle.strip_catalog.specs.Refusals.{refusal}
 use Rattle.strip_setup.specs.Resolve.{bindings_of, bound_with, derived_of, function_at, function_of, in_rule, no_function, rule_of, stream_of, table_of}
-use Rattle.strip_catalog.proofs.Causes.{no_exists}
+use Rattle.strip_catalog.proofs.Causes.{both_empty, maintain_derived, maintain_names, no_exists}
+use Rattle.strip_catalog.proofs.Named.{made_function_name, made_rule_name, own_name}
 
 -- ---- a name behind others
 
@@ -146,14 +151,28 @@ with_names catalog (st.Rule name table events conditions evaluate function manne
       functions = subst AreApart (sym (bound_names function bound catalog.functions)) own.functions;
       rules = one_more (λ (r : Rule). r.name) catalog.rules (rule_of catalog name table events conditions evaluate function manner) own.rules new;
     }
-with_names catalog (st.Maintain name by manner) e own = own
+with_names catalog (st.Maintain name how manner) e own =
+    let id = table_id catalog.tables name in
+    let table = def_at catalog.tables id in
+    let named = own_name catalog.tables name (maintain_derived catalog name how manner e) in
+    let none = maintain_names catalog name how manner e in
+    let function_free = not_there _ (function_name name) _ none in
+    let rule_free = not_there _ (rule_name name) _ (both_empty (name_if (is_some (function_named catalog.functions (function_name name))) (function_name name)) _ none).1 in
+    let function_is = made_function_name how table id ∙ ap function_name named in
+    let rule_is = made_rule_name how table (length catalog.functions) (manner_of manner) ∙ ap rule_name named in
+    record {
+      tables = subst AreApart (sym (map-set_same (λ (t : TableDef). t.name) catalog.tables id (record table { kept = Some how; declared = true }) no_table.def refl)) own.tables;
+      streams = own.streams;
+      functions = one_more (λ (f : Function). f.name) catalog.functions (made_function how table id) own.functions (subst (λ n. is_some (function_named catalog.functions n) ≡ false) (sym function_is) function_free);
+      rules = one_more (λ (r : Rule). r.name) catalog.rules (made_rule how table (length catalog.functions) (manner_of manner)) own.rules (subst (λ n. is_some (rule_named catalog.rules n) ≡ false) (sym rule_is) rule_free);
+    }
 with_names catalog st.Ready e own = record { tables = own.tables; streams = own.streams; functions = own.functions; rules = own.rules }
 with_names catalog (st.At moment) e own = own
 with_names catalog (st.Deed caller deed) e own = own
 
 all_names : (statements : List Statement) → AreAccepted statements → HasOwnNames (declared statements)
 all_names [] accepted = record { tables = tt; streams = tt; functions = tt; rules = tt }
-all_names (statement ∷ earlier) accepted = with_names (declared earlier) statement accepted.1 (all_names earlier accepted.0)
+all_names (statement ∷ earlier) accepted = with_names (declared earlier) statement accepted.2 (all_names earlier accepted.0)
 
 pub own_names : NamesAreTheirOwn
 own_names catalog is = subst HasOwnNames (sym is.is) (all_names is.statements is.accepted)

@@ -30,6 +30,8 @@ use Rattle.strip_kinds.specs.Mismatch.{kind_mismatch}
 use Rattle.strip_kinds.specs.Width.{too_wide}
 use Rattle.strip_catalog.specs.Laws.{IsSmall}
 use Rattle.strip_catalog.specs.Refusals.{first_cause, refusal}
+use Rattle.strip_catalog.specs.Calls.{IsDeclaration}
+use Rattle.strip_catalog.proofs.Causes.{declaration_refused}
 use Rattle.strip_catalog.proofs.Fitting.{conditions_few, derive_few, evaluate_few}
 
 -- ---- where queries stand
@@ -106,24 +108,24 @@ first_cause-append [] ys = refl
 first_cause-append (None ∷ xs) ys = first_cause-append xs ys
 first_cause-append (Some error ∷ xs) ys = refl
 
-by_groups : (catalog : Catalog) (s : Statement) → refusal catalog s ≡ option_or (first_cause (of_names catalog s)) (option_or (first_cause (of_kinds catalog s)) (first_cause (of_rules catalog s)))
-unfolding refusal
-by_groups catalog s =
-    first_cause-append (of_names catalog s) (of_kinds catalog s ++ of_rules catalog s)
+by_groups : (catalog : Catalog) (s : Statement) → IsDeclaration s → refusal catalog s ≡ option_or (first_cause (of_names catalog s)) (option_or (first_cause (of_kinds catalog s)) (first_cause (of_rules catalog s)))
+by_groups catalog s is =
+    declaration_refused catalog s is
+    ∙ first_cause-append (of_names catalog s) (of_kinds catalog s ++ of_rules catalog s)
     ∙ ap (option_or (first_cause (of_names catalog s))) (first_cause-append (of_kinds catalog s) (of_rules catalog s))
 
-pub names_refused : (catalog : Catalog) (s : Statement) (e : SetupError) → Checks (first_cause (of_names catalog s)) (Err e) → Checks (refusal catalog s) (Err e)
-names_refused catalog s e p =
-    carried _ _ (Err e) (by_groups catalog s) (refused (first_cause (of_names catalog s)) (option_or (first_cause (of_kinds catalog s)) (first_cause (of_rules catalog s))) e p)
+pub names_refused : (catalog : Catalog) (s : Statement) (e : SetupError) → IsDeclaration s → Checks (first_cause (of_names catalog s)) (Err e) → Checks (refusal catalog s) (Err e)
+names_refused catalog s e is p =
+    carried _ _ (Err e) (by_groups catalog s is) (refused (first_cause (of_names catalog s)) (option_or (first_cause (of_kinds catalog s)) (first_cause (of_rules catalog s))) e p)
 
-pub kinds_refused : (catalog : Catalog) (s : Statement) (e : SetupError) → first_cause (of_names catalog s) ≡ None → Checks (first_cause (of_kinds catalog s)) (Err e) → Checks (refusal catalog s) (Err e)
-kinds_refused catalog s e none p =
-    carried _ _ (Err e) (by_groups catalog s)
+pub kinds_refused : (catalog : Catalog) (s : Statement) (e : SetupError) → IsDeclaration s → first_cause (of_names catalog s) ≡ None → Checks (first_cause (of_kinds catalog s)) (Err e) → Checks (refusal catalog s) (Err e)
+kinds_refused catalog s e is none p =
+    carried _ _ (Err e) (by_groups catalog s is)
     (passed (first_cause (of_names catalog s)) (option_or (first_cause (of_kinds catalog s)) (first_cause (of_rules catalog s))) (Err e) none
     (refused (first_cause (of_kinds catalog s)) (first_cause (of_rules catalog s)) e p))
 
-pub rules_checked : (catalog : Catalog) (s : Statement) (r : Result Unit SetupError) → first_cause (of_names catalog s) ≡ None → first_cause (of_kinds catalog s) ≡ None → Checks (first_cause (of_rules catalog s)) r → Checks (refusal catalog s) r
-rules_checked catalog s r no_name no_kind p =
-    carried _ _ r (by_groups catalog s)
+pub rules_checked : (catalog : Catalog) (s : Statement) (r : Result Unit SetupError) → IsDeclaration s → first_cause (of_names catalog s) ≡ None → first_cause (of_kinds catalog s) ≡ None → Checks (first_cause (of_rules catalog s)) r → Checks (refusal catalog s) r
+rules_checked catalog s r is no_name no_kind p =
+    carried _ _ r (by_groups catalog s is)
     (passed (first_cause (of_names catalog s)) (option_or (first_cause (of_kinds catalog s)) (first_cause (of_rules catalog s))) r no_name
     (passed (first_cause (of_kinds catalog s)) (first_cause (of_rules catalog s)) r no_kind p))

@@ -1,21 +1,27 @@
 -- What statements declare, and which catalogs there are.
 use Rattle.std.specs.Prelude.{◌≡◌, List, [], ◌∷◌, None}
 use Rattle.strip_ast.specs.declared.statements.Statement.{Statement}
+use Rattle.strip_ast.specs.declared.token_types.Placed.{Placed}
+use Rattle.strip_ast.specs.Syntax.{IsStatement}
 use Rattle.strip_setup.specs.Adds.{with_statement}
 use Rattle.strip_setup.specs.Catalog.{Catalog, nothing}
 use Rattle.strip_catalog.specs.Refusals.{refusal}
+
+-- some tokens are this statement by the productions of the grammar
+abbrev pub IsWritten : Statement → Type 0
+IsWritten statement = (tokens : List Placed) × IsStatement tokens statement
 
 -- what is declared after these statements, the last of them first
 abbrev pub declared : List Statement → Catalog
 declared [] = nothing
 declared (statement ∷ earlier) = with_statement (declared earlier) statement
 
--- none of them is refused after those before it
+-- they are written so, and none of them is refused after those before it
 abbrev pub AreAccepted : List Statement → Type 0
 AreAccepted [] = Unit {0}
-AreAccepted (statement ∷ earlier) = AreAccepted earlier × (refusal (declared earlier) statement ≡ None)
+AreAccepted (statement ∷ earlier) = AreAccepted earlier × IsWritten statement × (refusal (declared earlier) statement ≡ None)
 
--- it is what some statements declare of which none is refused
+-- it is what some statements declare that are written, and of which none is refused
 pub record IsDeclared (catalog : Catalog) : Type 0 where
   pub statements : List Statement
   pub accepted : AreAccepted statements

@@ -1,6 +1,9 @@
 -- What the calls of a catalog do.
 use Rattle.std.specs.Prelude.{◌≡◌, List, [], ◌∷◌, ◌++◌, Some, None, Result, Ok, Err, ℕ, true, false, get_or}
 use Rattle.strip_value.specs.declared.tables.TableDef.{TableDef}
+use Rattle.strip_value.specs.declared.acts.Act.{Act}
+use Rattle.strip_ast.specs.declared.deeds.Deed.{Deed}
+use Rattle.strip_ast.specs.declared.deeds.Deed.TheVariants as deed
 use Rattle.strip_ast.specs.declared.statements.Statement.{Statement}
 use Rattle.strip_ast.specs.declared.statements.Statement.TheVariants as st
 use Rattle.strip_setup.specs.declared.errors.SetupError.{SetupError}
@@ -9,6 +12,11 @@ use Rattle.strip_catalog.specs.declared.additions.Addition.{Addition}
 use Rattle.strip_catalog.specs.declared.additions.Addition.TheVariants as addition
 use Rattle.strip_setup.specs.Adds.{with_statement}
 use Rattle.strip_setup.specs.Catalog.{Catalog}
+use Rattle.strip_setup.specs.Maintain.{declared_kept}
+use Rattle.strip_value.specs.declared.rules.Function.{Function}
+use Rattle.strip_catalog.specs.declared.made.Made.{Made}
+use Rattle.strip_catalog.specs.Made.{how_of}
+use Rattle.strip_setup.specs.Resolve.{act_of}
 use Rattle.strip_catalog.specs.Refusals.{refusal}
 
 -- a statement that declares a table, a derived table, a stream, a function or a rule
@@ -32,6 +40,24 @@ abbrev pub BecomesReady : Catalog → Catalog → Result Unit SetupError → Typ
 BecomesReady old new (Ok _) = (old.closed ≡ false) × (new ≡ record old { closed = true })
 BecomesReady old new (Err error) = (error ≡ Closed) × (old.closed ≡ true) × (new ≡ old)
 
+-- ---- acts
+
+-- the deed is an act
+abbrev pub IsAct : Deed → Type 0
+IsAct (deed.Insert table rows) = Unit {0}
+IsAct (deed.Put table row) = Unit {0}
+IsAct (deed.Update table sets filter) = Unit {0}
+IsAct (deed.Delete table filter) = Unit {0}
+IsAct (deed.Select query) = Unit {0}
+IsAct (deed.Show table) = Unit {0}
+IsAct _ = ⊥
+
+-- the act is refused exactly where it has a cause; else it is what it stands for. Memory may be wanting at any point
+abbrev pub Resolves : Catalog → Deed → Result Act SetupError → Type 0
+Resolves catalog d (Ok made) = (refusal catalog (st.Deed None d) ≡ None) × (made ≡ act_of catalog.tables d)
+Resolves catalog d (Err Memory) = Unit {0}
+Resolves catalog d (Err error) = refusal catalog (st.Deed None d) ≡ Some error
+
 -- ---- what a statement adds
 
 -- the catalog with an addition
@@ -40,6 +66,7 @@ with_addition catalog (addition.Table table) = record catalog { tables = catalog
 with_addition catalog (addition.Stream stream) = record catalog { streams = catalog.streams ++ stream ∷ [] }
 with_addition catalog (addition.Function tables function) = record catalog { tables = tables; functions = catalog.functions ++ function ∷ [] }
 with_addition catalog (addition.Rule functions rule) = record catalog { functions = functions; rules = catalog.rules ++ rule ∷ [] }
+with_addition catalog (addition.Kept tables functions rule) = record catalog { tables = tables; functions = functions; rules = catalog.rules ++ rule ∷ [] }
 
 -- it is what the statement declares
 abbrev pub IsAdded : Catalog → Statement → Addition → Type 0
@@ -50,8 +77,8 @@ abbrev pub Installs : Catalog → Addition → Catalog → Result Unit SetupErro
 Installs old one new (Ok _) = new ≡ with_addition old one
 Installs old one new (Err error) = (error ≡ Memory) × (new ≡ old)
 
--- ---- lookups
-
--- the definition of a table; one that isn't there has no name
-abbrev pub def_at : List TableDef → ℕ → TableDef
-def_at tables id = get_or tables id (record { name = []; columns = []; key = []; limit = None; query = None; kept = None; declared = false })
+-- a table that is kept from now on, with its function and its rule
+abbrev pub AddsKept : List TableDef → List Function → Made → Addition → Type 0
+AddsKept tables functions made (addition.Kept kept with rule) =
+    (kept ≡ declared_kept tables made.table (how_of made.function)) × (with ≡ functions ++ made.function ∷ []) × (rule ≡ made.rule)
+AddsKept tables functions made _ = ⊥

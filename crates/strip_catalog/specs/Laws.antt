@@ -1,11 +1,16 @@
 -- What every catalog is.
-use Rattle.std.specs.Prelude.{◌≡◌, ℕ, ◌+◌, ◌*◌, ◌<◌, ◌≤◌, false, List, [], ◌∷◌, Some, get_or, length, map}
+use Rattle.std.specs.Prelude.{◌≡◌, ℕ, ◌+◌, ◌*◌, ◌<◌, ◌≤◌, true, false, ◌⊎◌, List, [], ◌∷◌, Some, None, get_or, is_some, length, map}
 use Rattle.std.specs.List.{AllByRecursion}
 use Rattle.strip_setup.specs.Small.{AreNarrow}
 use Rattle.strip_setup.specs.Catalog.{Catalog, function_number, has_name, table_number}
 use Rattle.strip_setup.specs.Resolve.{no_function}
 use Rattle.strip_catalog.specs.Accepted.{IsDeclared}
-use Rattle.strip_catalog.specs.Calls.{def_at}
+use Rattle.strip_meaning.specs.Contents.{def_at}
+use Rattle.strip_value.specs.declared.tables.TableDef.{TableDef}
+use Rattle.strip_setup.specs.Maintain.{query_in}
+use Rattle.strip_meaning.specs.First.{IsBase}
+use Rattle.strip_meaning.specs.First.{IsFirst}
+use Rattle.strip_catalog.specs.First.{is_first}
 
 -- there are at most 64 tables, streams and functions and 128 rules; a table has at most 16 columns, and a function at most 4
 -- bound tables and 8 more for each rule
@@ -42,3 +47,19 @@ pub record NamesItsNumbers (catalog : Catalog) : Type 0 where
 
 abbrev pub NamesStandForNumbers : Type 0
 NamesStandForNumbers = (catalog : Catalog) → IsDeclared catalog → NamesItsNumbers catalog
+
+-- a derived table: at most 16 columns, its key columns among them, and no row limit; one whose query has the first form is a
+-- group column of a base table, a sum and a count
+pub record IsDerivedTable (tables : List TableDef) (def : TableDef) : Type 0 where
+  pub derived : is_some def.query ≡ true
+  pub narrow : length def.columns ≤ 16
+  pub key : AllByRecursion (λ column. column < length def.columns) def.key
+  pub unlimited : def.limit ≡ None
+  pub first : is_first (query_in def) ≡ true → IsFirst tables def
+
+abbrev pub IsTableOf : List TableDef → TableDef → Type 0
+IsTableOf tables def = IsBase def ⊎ IsDerivedTable tables def
+
+-- each table is a base table or a derived one
+abbrev pub TablesAreSound : Type 0
+TablesAreSound = (catalog : Catalog) → IsDeclared catalog → AllByRecursion (IsTableOf catalog.tables) catalog.tables

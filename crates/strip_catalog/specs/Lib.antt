@@ -1,9 +1,13 @@
 -- The catalog: what accepted statements declare, and what its calls do.
 pub mod Refusals
 pub mod Accepted
+pub mod Made
+pub mod First
+pub mod Sums
 pub mod Laws
 pub mod Calls
 pub mod Writing
 pub mod Examples
 pub mod TableExamples
 pub mod RuleExamples
+pub mod MaintainExamples

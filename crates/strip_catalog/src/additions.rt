@@ -28,6 +28,12 @@ pub(crate) enum Addition {
         functions: FunctionList,
         rule: Rule,
     },
+    /// A rule, and the functions with the one that it is for, and the tables, of which it keeps one from then on.
+    Kept {
+        tables: TableDefList,
+        functions: FunctionList,
+        rule: Rule,
+    },
 }
 
 /// What a statement of a base table adds that isn't refused.

@@ -2,20 +2,27 @@
 ghost use Rattle.std.specs.Prelude.{◌≡◌, ◌<◌, ◌≤◌, length, option_copied, IfOk};
 ghost use Rattle.std.specs.Option.{IfSome};
 ghost use Rattle.strip_setup.specs.Small.{AreNarrow};
-ghost use Rattle.strip_catalog.specs.Accepted.{IsDeclared};
-ghost use Rattle.strip_catalog.specs.Calls.{Adds, BecomesReady, IsDeclaration, Installs, def_at, with_addition};
+ghost use Rattle.strip_meaning.specs.Contents.{def_at};
+ghost use Rattle.strip_catalog.specs.Accepted.{IsDeclared, IsWritten};
+ghost use Rattle.strip_catalog.specs.declared.additions.Addition.TheVariants as addition;
+ghost use Rattle.strip_catalog.specs.Calls.{Adds, BecomesReady, IsAct, IsDeclaration, Installs, Resolves, with_addition};
+ghost use Rattle.strip_catalog.specs.First.{first_made};
+ghost use Rattle.strip_catalog.specs.Made.{IsMade, statement_of};
 ghost use Rattle.strip_setup.specs.Catalog.{nothing, stream_named, table_number};
 
 use crate::additions::{Addition, addition_of};
-use crate::refusing::refuse;
+use crate::keeping::{first_made, kept_addition, refuse_made};
+use crate::made::Made;
+use crate::refusing::{refuse, refuse_act};
 use std::alloc::{AllocError, Global};
 use std::marker::Model;
-use strip_ast::Statement;
+use strip_ast::{Deed, Statement};
 use strip_setup::SetupError;
+use strip_setup::acts::act_of;
 use strip_setup::names::{stream_named, table_number};
 use strip_setup::setup::Setup;
 use strip_value::{
-    Duplicate, Function, FunctionList, Id, Name, Rule, RuleList, Stream, StreamList, TableDef,
+    Act, Duplicate, Function, FunctionList, Id, Name, Rule, RuleList, Stream, StreamList, TableDef,
     TableDefList,
 };
 
@@ -155,6 +162,7 @@ impl Catalog {
     /// Declares what the statement says, or refuses it; a refusal changes nothing.
     pub fn add(&mut self, statement: &Statement) -> Result<(), SetupError>
         requires declaration { IsDeclaration statement.now }
+        requires written { IsWritten statement.now }
         ensures { Adds self.old statement.now self.new result }
     {
         let setup = self.setup();
@@ -163,6 +171,39 @@ impl Catalog {
             return Err(SetupError::Memory);
         };
         self.install(addition)
+    }
+
+    /// What keeps the table of this name by sums, at once; none where it isn't there or can't be kept so yet. It is for `keep`.
+    pub fn kept_by_sums(&self, table: &Name) -> Result<Option<Made>, AllocError>
+        ensures exact { IfOk result (λ made. made ≡ first_made self.now table.now) }
+        ensures made { IfOk result (λ made. IfSome made (IsMade self.now)) }
+    {
+        first_made(self.alloc, &self.setup(), table)
+    }
+
+    /// Declares that a derived table is kept by what was made of it, as its `maintain` statement would; a refusal changes
+    /// nothing.
+    pub fn keep(&mut self, made: Made) -> Result<(), SetupError>
+        requires made { IsMade self.old made }
+        ensures { Adds self.old (statement_of self.old made) self.new result }
+    {
+        refuse_made(self.alloc, &self.setup(), &made)?;
+        let Ok(addition) = kept_addition(self.alloc, &self.tables, &self.functions, made) else {
+            return Err(SetupError::Memory);
+        };
+        self.install(addition)
+    }
+
+    /// What an act stands for: its names replaced by numbers. It is refused as a statement would be.
+    pub fn act(&self, deed: &Deed) -> Result<Act, SetupError>
+        requires act { IsAct deed.now }
+        ensures { Resolves self.now deed.now result }
+    {
+        refuse_act(self.alloc, &self.setup(), deed)?;
+        match act_of(self.alloc, self.tables.as_slice(), deed) {
+            Ok(act) => Ok(act),
+            Err(_) => Err(SetupError::Memory),
+        }
     }
 
     /// Ends setup, or answers `Closed` where it was over.
@@ -198,8 +239,31 @@ impl Catalog {
                 }
                 added
             }
+            Addition::Kept {
+                tables,
+                functions,
+                rule,
+            } => return self.install_kept(tables, functions, rule),
         };
         added.map_err(|_| SetupError::Memory)
+    }
+
+    /// Adds what is declared for a derived table that is kept.
+    fn install_kept(
+        &mut self,
+        tables: TableDefList,
+        functions: FunctionList,
+        rule: Rule,
+    ) -> Result<(), SetupError>
+        requires { IsDeclared (with_addition self.old (addition.Kept tables functions rule)) }
+        ensures { Installs self.old (addition.Kept tables functions rule) self.new result }
+    {
+        if self.rules.push(rule).is_err() {
+            return Err(SetupError::Memory);
+        }
+        self.tables = tables;
+        self.functions = functions;
+        Ok(())
     }
 
     /// What statements are checked against.

@@ -1,5 +1,5 @@
 //! Laws of catalogs: the contracts of functions that do nothing. The statements stand in `specs/Laws.antt`.
-ghost use Rattle.strip_catalog.specs.Laws.{CatalogsAreSmall, NamesAreTheirOwn, NamesStandForNumbers};
+ghost use Rattle.strip_catalog.specs.Laws.{CatalogsAreSmall, NamesAreTheirOwn, NamesStandForNumbers, TablesAreSound};
 
 /// There are at most 64 tables, streams and functions, and 128 rules; a table has at most 16 columns.
 pub fn catalogs_are_small()
@@ -14,4 +14,10 @@ pub fn names_are_their_own()
 /// The name of each table stands for the number of that table, and so does the name of each function.
 pub fn names_stand_for_numbers()
     ensures { NamesStandForNumbers }
+{}
+
+/// Each table is a base table within the limits or a derived one. A derived table of the first form has the columns that its
+/// query gives.
+pub fn tables_are_sound()
+    ensures { TablesAreSound }
 {}

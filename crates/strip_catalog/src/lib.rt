@@ -3,12 +3,17 @@
 
 mod additions;
 mod catalog;
+mod keeping;
 pub mod laws;
+mod made;
 mod refusing;
+mod sums;
 
 pub use catalog::Catalog;
-pub use strip_ast::Statement;
+pub use made::Made;
+pub use strip_ast::{Deed, Statement};
 pub use strip_setup::{LimitKind, SetupError};
 pub use strip_value::{
-    BoundDef, BoundQuery, Event, Function, Id, Name, Query, Rule, Step, Stream, TableDef,
+    Act, BoundDef, BoundQuery, By, ColumnDef, Event, Function, Id, Name, Query, Rule, Step, Stream,
+    TableDef,
 };

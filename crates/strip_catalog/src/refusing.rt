@@ -1,7 +1,9 @@
 //! Why a statement is refused: the causes in their order.
 ghost use Rattle.std.specs.Prelude.{◌≡◌, ◌∷◌, IfOk, None, Some, []};
 ghost use Rattle.strip_setup.specs.declared.errors.SetupError.TheVariants.{BoundDiffers};
+ghost use Rattle.strip_ast.specs.declared.statements.Statement.TheVariants as st;
 ghost use Rattle.strip_setup.specs.Checks.{Checks};
+ghost use Rattle.strip_setup.specs.Places.{AsksFew};
 ghost use Rattle.strip_names.specs.Basics.{closed, no_key, reads_derived};
 ghost use Rattle.strip_names.specs.Exists.{exists};
 ghost use Rattle.strip_names.specs.Grouped.{is_ungrouped, not_grouped};
@@ -10,6 +12,7 @@ ghost use Rattle.strip_names.specs.Unknown.{unknown};
 ghost use Rattle.strip_kinds.specs.Bound.{bound_differs, not_bound};
 ghost use Rattle.strip_kinds.specs.Mismatch.{kind_mismatch};
 ghost use Rattle.strip_kinds.specs.Width.{too_wide};
+ghost use Rattle.strip_catalog.specs.Calls.{IsDeclaration};
 ghost use Rattle.strip_catalog.specs.Laws.{IsSmall};
 ghost use Rattle.strip_catalog.specs.Refusals.{first_cause, refusal};
 
@@ -20,11 +23,11 @@ use strip_kinds::rules::{
     differs_in_rule, magnitudes_in_rule, mismatched_in_rule, unbound_in_rule,
 };
 use strip_kinds::width::{magnitudes_in_deed, magnitudes_in_query};
-use strip_names::exists::exists;
+use strip_names::exists::{exists, taken_in_deed};
 use strip_names::grouped::{is_misplaced_in, is_misplaced_in_rule, is_underivable};
-use strip_names::limits::limit;
+use strip_names::limits::{limit, limits_in_deed};
 use strip_names::refusals::{closed, no_key, reads_derived};
-use strip_names::unknown::unknown;
+use strip_names::unknown::{unknown, unknown_in_deed};
 use strip_setup::SetupError;
 use strip_setup::scope::Scope;
 use strip_setup::setup::Setup;
@@ -244,9 +247,42 @@ pub(crate) fn refuse(
     statement: &Statement,
 ) -> Result<(), SetupError>
     requires small { IsSmall setup.now }
+    requires declaration { IsDeclaration statement.now }
     ensures { Checks (refusal setup.now statement.now) result }
 {
     check_names(alloc, setup, statement)?;
     check_kinds(alloc, setup, statement)?;
     check_rules(alloc, setup, statement)
+}
+
+// ---- acts
+
+/// An item that may not stand in the query of an act.
+fn act_not_grouped(alloc: Global, setup: &Setup<'_>, deed: &Deed) -> Result<(), SetupError>
+    requires small { IsSmall setup.now }
+    requires few { AsksFew deed.now }
+    ensures { Checks (not_grouped setup.now (st.Deed None deed.now)) result }
+{
+    let Deed::Select { query } = deed else {
+        return Ok(());
+    };
+    match is_misplaced_in(alloc, &Scope::outside_rules(setup.defs()), query) {
+        Ok(false) => Ok(()),
+        Ok(true) => Err(SetupError::NotGrouped),
+        Err(_) => Err(SetupError::Memory),
+    }
+}
+
+/// Refuses an act for the first cause that it has.
+pub(crate) fn refuse_act(alloc: Global, setup: &Setup<'_>, deed: &Deed) -> Result<(), SetupError>
+    requires small { IsSmall setup.now }
+    ensures { Checks (refusal setup.now (st.Deed None deed.now)) result }
+{
+    let tables = setup.defs();
+    taken_in_deed(alloc, deed)?;
+    unknown_in_deed(alloc, tables, deed)?;
+    limits_in_deed(deed)?;
+    mismatched_in_deed(alloc, tables, deed)?;
+    magnitudes_in_deed(alloc, tables, deed)?;
+    act_not_grouped(alloc, setup, deed)
 }
