@@ -88,7 +88,7 @@ pub run_passes : (p : ℕ → Bool) (bytes : List ℕ) → list_all p (take (pre
 run_passes p [] = refl
 run_passes p (c ∷ cs) = run_passes_next p c cs (p c) refl (run_passes p cs)
 
-both_true : (a b : Bool) → (a && b) ≡ true → (a ≡ true) × (b ≡ true)
+pub both_true : (a b : Bool) → (a && b) ≡ true → (a ≡ true) × (b ≡ true)
 both_true true true is = (refl, refl)
 both_true true false is = (refl, is)
 both_true false b is = cc

@@ -1,3 +1,4 @@
 pub mod CutLemmas
 pub mod MarkLemmas
 pub mod PrintLemmas
+pub mod SoundTokens

@@ -5,3 +5,4 @@ pub mod Pieces
 pub mod Written
 pub mod Grammar
 pub mod Syntax
+pub mod Faults

@@ -5,6 +5,7 @@ mod cutting;
 mod deeds;
 mod expression_text;
 mod expressions;
+mod fault_text;
 mod faults;
 mod marks;
 mod printed;
@@ -29,6 +30,3 @@ pub use rules::{
 };
 pub use statements::Statement;
 pub use token_types::{Digits, Placed, Token, TokenList};
-
-#[cfg(test)]
-mod tests;

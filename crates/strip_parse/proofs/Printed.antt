@@ -13,7 +13,8 @@ use Rattle.strip_parse.proofs.InGrammar.{parsed_read}
 use Rattle.strip_parse.proofs.Counted.{unbounded, limits, Counted, CountedWithin, uncounted, within_uncounted, counted, within_counted, unbounded_falls, limits_fall}
 use Rattle.strip_parse.proofs.CountedSound.{taken, inside_taken}
 use Rattle.strip_parse.proofs.CountedTaking.{state_of, takes_all, inside_all}
-use Rattle.strip_parse.proofs.PrintedTokens.{tokens_sound, cut_again}
+use Rattle.strip_ast.proofs.SoundTokens.{tokens_sound}
+use Rattle.strip_parse.proofs.PrintedTokens.{cut_again}
 use Rattle.strip_parse.proofs.PrintedGrammar.{printed_again}
 
 pub printed : PrintsItself

@@ -38,7 +38,8 @@ use Rattle.strip_ast.specs.Written as written
 use Rattle.strip_ast.specs.Written.{level, expr_pieces, enclosed, enclosed_below, op_mark, op_level, left_level, right_level, statement_pieces}
 use Rattle.strip_ast.proofs.PrintLemmas.{pieces_of_two, pieces_of_not}
 use Rattle.strip_parse.proofs.Counted.{Bounds, Step, BehindCounted, EachCounted, MaybeCounted, Counted, CountedWithin, uncounted, within_uncounted, each_counted, counted_more, room_more, Falls, fewer}
-use Rattle.strip_parse.proofs.PrintedTokens.{piece_tokens, pieces_tokens, SoundToken, sound_placed, SoundTokens, SoundPieces, bare}
+use Rattle.strip_ast.proofs.SoundTokens.{SoundToken, sound_placed, SoundTokens}
+use Rattle.strip_parse.proofs.PrintedTokens.{piece_tokens, pieces_tokens, SoundPieces, bare}
 
 -- ---- tokens of pieces
 

@@ -1,3 +1,5 @@
+#![tactic(auto, unfolding(strip_ast::specs::Syntax::test))]
+
 ghost use Rattle.std.specs.Prelude.{◌≡◌, ◌∷◌, [], IsTrue};
 ghost use Rattle.strip_ast.specs.declared.expressions.Expr.TheVariants as expr;
 ghost use Rattle.strip_ast.specs.declared.expressions.Op.TheVariants as op;
@@ -268,7 +270,6 @@ fn take_compare(alloc: Global, cursor: &mut Cursor, room: u32) -> Result<Expr, S
 
 // test = ["not"] compare
 #[cycle(expr)]
-#[tactic(auto, unfolding(strip_ast::specs::Syntax::test))]
 fn take_test(alloc: Global, cursor: &mut Cursor, room: u32) -> Result<Expr, Stop>
     ensures { IsTaken (take (take_inside room) test cursor.old) result cursor.new }
 {

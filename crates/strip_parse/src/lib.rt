@@ -16,6 +16,3 @@ mod words;
 
 pub use exactness::{prints_itself, reads_exactly};
 pub use parsing::parse;
-
-#[cfg(test)]
-mod tests;

@@ -10,3 +10,4 @@ pub mod Codes
 pub mod Small
 pub mod Maintain
 pub mod Adds
+pub mod Texts

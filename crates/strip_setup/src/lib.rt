@@ -17,5 +17,6 @@ pub mod queries;
 pub mod scope;
 pub mod setup;
 pub mod tables;
+mod texts;
 
 pub use errors::{LimitKind, SetupError};
