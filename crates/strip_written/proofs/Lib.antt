@@ -1,0 +1,8 @@
+-- Lemmas.
+mod Within
+mod Tests
+mod ReadExpressions
+mod ReadActs
+mod BuildParts
+mod BuildExpressions
+mod BuildActs
