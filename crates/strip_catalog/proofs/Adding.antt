@@ -3,14 +3,13 @@ use Rattle.std.proofs.Common.{◌≡◌, Bool, true, false, [], ◌∷◌, None,
 use Rattle.strip_ast.specs.declared.statements.Statement.{Statement}
 use Rattle.strip_ast.specs.declared.statements.Statement.TheVariants as st
 use Rattle.strip_setup.specs.declared.errors.SetupError.TheVariants.{Closed}
-use Rattle.strip_catalog.specs.Accepted.{IsDeclared, IsWritten}
+use Rattle.strip_catalog.specs.Accepted.{HasText, IsDeclared, IsWritten}
 use Rattle.strip_setup.specs.Adds.{with_statement}
 use Rattle.strip_setup.specs.Catalog.{Catalog, refused_if}
 use Rattle.strip_catalog.specs.Refusals.{first_cause, refusal}
-use Rattle.strip_catalog.specs.Calls.{IsAdded, with_addition}
+use Rattle.strip_catalog.specs.Calls.{IsAdded, IsDeclaration, with_addition}
 use Rattle.strip_catalog.specs.Laws.{IsSmall}
 use Rattle.strip_catalog.specs.declared.additions.Addition.{Addition}
-use Rattle.strip_catalog.proofs.InGrammar.{ready_written}
 use Rattle.strip_catalog.proofs.Sizes.{small}
 
 -- a statement that isn't refused declares one more
@@ -35,7 +34,19 @@ unfolding with_statement
 ready_closes catalog = refl
 
 pub ready_declared : (catalog : Catalog) → IsDeclared catalog → catalog.closed ≡ false → IsDeclared (record catalog { closed = true })
-ready_declared catalog is unclosed = subst IsDeclared (ready_closes catalog) (still_declared catalog st.Ready is ready_written (ready_refused catalog ∙ ap (λ b. refused_if b Closed) unclosed))
+ready_declared catalog is unclosed = subst IsDeclared (ready_closes catalog) (still_declared catalog st.Ready is tt (ready_refused catalog ∙ ap (λ b. refused_if b Closed) unclosed))
+
+-- what declares and has a text is written
+pub text_written : (statement : Statement) → IsDeclaration statement → HasText statement → IsWritten statement
+text_written (st.Table name columns key limit) is has = has
+text_written (st.Stream name table marked) is has = has
+text_written (st.Derive name query) is has = has
+text_written (st.Function name steps) is has = has
+text_written (st.Rule name table events conditions evaluate function manner) is has = has
+text_written (st.Maintain name how manner) is has = tt
+text_written st.Ready is has = tt
+text_written (st.At moment) is has = tt
+text_written (st.Deed caller deed) is has = tt
 
 -- ---- what a catalog lends to the checks
 

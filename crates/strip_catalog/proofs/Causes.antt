@@ -62,7 +62,7 @@ pub none_there : {A : Type 0} (xs : List A) → first xs ≡ None → xs ≡ []
 none_there [] e = refl
 none_there (x ∷ xs) e = cc
 
-none_mapped : {A B : Type 0} (f : A → B) (o : Option A) → option_map f o ≡ None → o ≡ None
+pub none_mapped : {A B : Type 0} (f : A → B) (o : Option A) → option_map f o ≡ None → o ≡ None
 none_mapped f None e = refl
 none_mapped f (Some x) e = cc
 

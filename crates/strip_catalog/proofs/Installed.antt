@@ -1,6 +1,5 @@
 -- A catalog in which a derived table is kept from now on is one that statements declare.
 use Rattle.std.proofs.Common.{◌≡◌, ◌<◌, length, None, Result, Ok, Err, refl, sym, ◌∙◌, subst}
-use Rattle.strip_meaning.specs.Contents.{def_at}
 use Rattle.strip_setup.specs.declared.errors.SetupError.{SetupError}
 use Rattle.strip_setup.specs.Catalog.{Catalog}
 use Rattle.strip_catalog.specs.declared.additions.Addition.{Addition}
@@ -8,10 +7,9 @@ use Rattle.strip_catalog.specs.declared.made.Made.{Made}
 use Rattle.strip_catalog.specs.Accepted.{IsDeclared}
 use Rattle.strip_catalog.specs.Calls.{Adds, AddsKept, Installs, IsAdded, with_addition}
 use Rattle.strip_catalog.specs.Laws.{NamesItsNumbers}
-use Rattle.strip_catalog.specs.Made.{IsMade, how_of, statement_of}
+use Rattle.strip_catalog.specs.Made.{IsMade, statement_of}
 use Rattle.strip_catalog.specs.Refusals.{refusal}
 use Rattle.strip_catalog.proofs.Adding.{added_declared}
-use Rattle.strip_catalog.proofs.InGrammar.{maintain_written}
 use Rattle.strip_catalog.proofs.Kept.{below, kept_is}
 use Rattle.strip_catalog.proofs.Numbering.{own_numbers}
 
@@ -35,7 +33,7 @@ module _ (inside now lent : Catalog) (made : Made) (inside_is : inside ≡ now) 
     pub kept_declared : IsDeclared (with_addition now one)
     kept_declared =
         added_declared inside now now (statement_of now made) one inside_is refl is
-        (maintain_written (def_at now.tables made.table).name (how_of made.function) made.rule.unique made.rule.after) not_refused added
+        tt not_refused added
 
     pub kept_adds : (new : Catalog) (r : Result Unit SetupError) → Installs now one new r → Adds now (statement_of now made) new r
     kept_adds new (Ok u) installs = (not_refused, installs ∙ sym added)

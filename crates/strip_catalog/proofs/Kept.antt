@@ -1,5 +1,5 @@
 -- A derived table that is to be kept: why that is refused, and what its `maintain` statement declares.
-use Rattle.std.proofs.Common.{◌≡◌, ℕ, ◌<◌, Bool, true, false, not, List, [], ◌∷◌, ◌++◌, length, get_or, slice_get, Option, Some, None, Result, Err, option_map, is_some, unwrap_or, refl, sym, ap, ◌∙◌}
+use Rattle.std.proofs.Common.{◌≡◌, ℕ, ◌<◌, Bool, true, false, not, List, [], ◌∷◌, ◌++◌, length, get_or, Option, Some, None, Result, Err, option_map, is_some, unwrap_or, refl, sym, ap, ◌∙◌}
 use Rattle.strip_value.specs.declared.rules.BoundDef.{BoundDef}
 use Rattle.strip_value.specs.declared.rules.Function.{Function}
 use Rattle.strip_value.specs.declared.rules.Rule.{Rule}
@@ -20,9 +20,9 @@ use Rattle.strip_names.specs.Unknown.{missing, names_of}
 use Rattle.strip_catalog.specs.declared.additions.Addition.{Addition}
 use Rattle.strip_catalog.specs.declared.additions.Addition.TheVariants as addition
 use Rattle.strip_catalog.specs.declared.made.Made.{Made}
-use Rattle.strip_catalog.specs.Calls.{AddsKept, IsAdded, with_addition}
+use Rattle.strip_catalog.specs.Calls.{AddsKept, IsAdded}
 use Rattle.strip_catalog.specs.Laws.{NamesItsNumbers}
-use Rattle.strip_catalog.specs.Made.{IsMade, generated, how_of, statement_of}
+use Rattle.strip_catalog.specs.Made.{IsMade, how_of, statement_of}
 use Rattle.strip_catalog.specs.Refusals.{columns_made, first_cause, is_kept, lacks_count, limits_of_maintain, refusal, taken_by_maintain}
 use Rattle.strip_catalog.proofs.InTurn.{turn_last, turn_passed, turn_refused}
 use Rattle.strip_catalog.proofs.Named.{at_id, def_named, id_named, made_function_name, made_rule_name, there}

@@ -5,7 +5,9 @@ pub mod MadeNames
 pub mod MadeRules
 pub mod Causes
 pub mod Named
-pub mod InGrammar
+pub mod WrittenNames
+pub mod TablesNamed
+pub mod Accepting
 pub mod Sizes
 pub mod BoundSizes
 pub mod Fitting
@@ -23,3 +25,8 @@ pub mod Sound
 pub mod InTurn
 pub mod ActCauses
 pub mod Installed
+pub mod AtNumbers
+pub mod KeptStays
+pub mod KeptMade
+pub mod KeptSteps
+pub mod KeptAlone

@@ -8,7 +8,8 @@ use Rattle.strip_value.specs.declared.tables.TableDef.{TableDef}
 use Rattle.strip_setup.specs.Catalog.{has_name}
 use Rattle.strip_setup.specs.Resolve.{no_function}
 use Rattle.strip_meaning.specs.Contents.{def_at}
-use Rattle.strip_catalog.specs.Laws.{AreApart, NamesStandForNumbers}
+use Rattle.strip_acts.specs.Laws.{AreApart}
+use Rattle.strip_catalog.specs.Laws.{NamesStandForNumbers}
 use Rattle.strip_catalog.proofs.OwnNames.{eq_turned, neither, own_names}
 
 eq_itself : (name : List ℕ) → bytes_eq name name ≡ true

@@ -19,7 +19,8 @@ use Rattle.strip_catalog.specs.Accepted.{AreAccepted, declared}
 use Rattle.strip_setup.specs.Adds.{kept_by_steps, with_bound, with_statement}
 use Rattle.strip_setup.specs.Catalog.{Catalog, function_named, function_number, has_name, name_if, rule_named, table_id}
 use Rattle.strip_setup.specs.Maintain.{function_name, made_function, made_rule, manner_of, rule_name}
-use Rattle.strip_catalog.specs.Laws.{AreApart, HasOwnNames, NamesAreTheirOwn}
+use Rattle.strip_acts.specs.Laws.{AreApart}
+use Rattle.strip_catalog.specs.Laws.{HasOwnNames, NamesAreTheirOwn}
 use Rattle.strip_catalog.specs.Refusals.{refusal}
 use Rattle.strip_setup.specs.Resolve.{bindings_of, bound_with, derived_of, function_at, function_of, in_rule, no_function, rule_of, stream_of, table_of}
 use Rattle.strip_catalog.proofs.Causes.{both_empty, maintain_derived, maintain_names, no_exists}
@@ -67,7 +68,7 @@ not_there : (b : Bool) (name : List ℕ) (more : List (List ℕ)) → name_if b 
 not_there true name more e = cc
 not_there false name more e = refl
 
-not_named : (b : Bool) (name : List ℕ) → name_if b name ≡ [] → b ≡ false
+pub not_named : (b : Bool) (name : List ℕ) → name_if b name ≡ [] → b ≡ false
 not_named true name e = cc
 not_named false name e = refl
 

@@ -34,7 +34,7 @@ one_more tables table sound here =
 -- ---- tables that are kept
 
 -- steps say which of the tables are kept, and nothing else of them
-kept_by_function : (tables : List TableDef) (steps : List StepTree) → AreKept tables (kept_by_steps tables steps)
+pub kept_by_function : (tables : List TableDef) (steps : List StepTree) → AreKept tables (kept_by_steps tables steps)
 kept_by_function [] steps = tt
 kept_by_function (table ∷ tables) steps = (record { is = refl; base = λ e. refl }, kept_by_function tables steps)
 
@@ -48,7 +48,7 @@ kept_by_rule (first ∷ tables) zero how table is derived =
     (subst (λ t. IsKept t (record table { kept = Some how; declared = true })) (sym is) (derived_declared table how derived), all_itself tables)
 kept_by_rule (first ∷ tables) (suc id) how table is derived = (record { is = refl; base = λ e. refl }, kept_by_rule tables id how table is derived)
 
-kept_by_maintain : (catalog : Catalog) (name : List ℕ) (how : By) (manner : Manner) → refusal catalog (st.Maintain name how manner) ≡ None → AreKept catalog.tables (declared_kept catalog.tables (table_id catalog.tables name) how)
+pub kept_by_maintain : (catalog : Catalog) (name : List ℕ) (how : By) (manner : Manner) → refusal catalog (st.Maintain name how manner) ≡ None → AreKept catalog.tables (declared_kept catalog.tables (table_id catalog.tables name) how)
 kept_by_maintain catalog name how manner e = by_table (table_named catalog.tables name) refl
   where
     derived_there : is_derived (table_named catalog.tables name) ≡ true

@@ -16,7 +16,7 @@ use Rattle.strip_setup.specs.Resolve.{most_rows, number_in, table_of}
 use Rattle.strip_meaning.specs.First.{IsBase, IsLimit, is_stored}
 use Rattle.strip_setup.proofs.Numbers.{column_below}
 use Rattle.strip_names.specs.Limits.{limit_if, limit_of_rows, limits, more_than, one_more_than}
-use Rattle.strip_catalog.specs.Accepted.{IsWritten}
+use Rattle.strip_catalog.specs.Accepted.{HasText}
 use Rattle.strip_catalog.specs.Refusals.{refusal}
 use Rattle.strip_catalog.proofs.Causes.{at_most, both_empty, no_cause, none_there}
 
@@ -72,8 +72,8 @@ module _ (I : List Placed → Expr → Type 0) where
   written_columns u name cs key rows (inr (inr (inr (inr (inr (inr (inr (inl is)))))))) = let e = is.2 in cc
   written_columns u name cs key rows (inr (inr (inr (inr (inr (inr (inr (inr is)))))))) = let e = is.2 in cc
 
-are_columns : (name : List ℕ) (cs : List ColumnDef) (key : List (List ℕ)) (rows : Option ℕ) → IsWritten (st.Table name cs key rows) → AreColumns cs
-are_columns name cs key rows is = written_columns (Within is.1.0) is.0 name cs key rows is.1.1
+are_columns : (name : List ℕ) (cs : List ColumnDef) (key : List (List ℕ)) (rows : Option ℕ) → HasText (st.Table name cs key rows) → AreColumns cs
+are_columns name cs key rows (bytes, tokens, cut, (room, is)) = written_columns (Within room) tokens name cs key rows is
 
 -- ---- key columns are there
 
@@ -101,7 +101,7 @@ limit_there (Some n) e = by_tests (nat_le 1 n) (nat_le n most_rows) refl refl e
 
 -- ---- a statement that isn't refused
 
-pub table_base : (catalog : Catalog) (name : List ℕ) (cs : List ColumnDef) (key : List (List ℕ)) (rows : Option ℕ) → refusal catalog (st.Table name cs key rows) ≡ None → IsWritten (st.Table name cs key rows) → IsBase (table_of name cs key rows)
+pub table_base : (catalog : Catalog) (name : List ℕ) (cs : List ColumnDef) (key : List (List ℕ)) (rows : Option ℕ) → refusal catalog (st.Table name cs key rows) ≡ None → HasText (st.Table name cs key rows) → IsBase (table_of name cs key rows)
 table_base catalog name cs key rows e written =
     let passed = none_there (limits catalog (st.Table name cs key rows)) (no_cause catalog (st.Table name cs key rows) e).1.1.1.0 in
     let behind = both_empty (more_than 16 limit_kind.Columns (length cs)) (limit_of_rows rows) (both_empty (one_more_than 64 limit_kind.Tables (length catalog.tables)) (more_than 16 limit_kind.Columns (length cs) ++ limit_of_rows rows) passed).1 in

@@ -71,7 +71,7 @@ not_refused false e = cc
 -- ---- a statement that isn't refused
 
 module _ (catalog : Catalog) (name : List ℕ) (query : QueryTree) (e : refusal catalog (st.Derive name query) ≡ None) where
-  few : (length query.items ≤ 16) × (length query.entries ≤ most_entries query.group)
+  pub few : (length query.items ≤ 16) × (length query.entries ≤ most_entries query.group)
   few =
       let items = more_than 16 limit_kind.Columns (length query.items) in
       let entries = more_than (most_entries query.group) limit_kind.Entries (length query.entries) in

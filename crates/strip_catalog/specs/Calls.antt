@@ -1,9 +1,8 @@
 -- What the calls of a catalog do.
-use Rattle.std.specs.Prelude.{◌≡◌, List, [], ◌∷◌, ◌++◌, Some, None, Result, Ok, Err, ℕ, true, false, get_or}
+use Rattle.std.specs.Prelude.{◌≡◌, List, [], ◌∷◌, ◌++◌, Some, None, Result, Ok, Err, true, false}
 use Rattle.strip_value.specs.declared.tables.TableDef.{TableDef}
 use Rattle.strip_value.specs.declared.acts.Act.{Act}
 use Rattle.strip_ast.specs.declared.deeds.Deed.{Deed}
-use Rattle.strip_ast.specs.declared.deeds.Deed.TheVariants as deed
 use Rattle.strip_ast.specs.declared.statements.Statement.{Statement}
 use Rattle.strip_ast.specs.declared.statements.Statement.TheVariants as st
 use Rattle.strip_setup.specs.declared.errors.SetupError.{SetupError}
@@ -41,16 +40,6 @@ BecomesReady old new (Ok _) = (old.closed ≡ false) × (new ≡ record old { cl
 BecomesReady old new (Err error) = (error ≡ Closed) × (old.closed ≡ true) × (new ≡ old)
 
 -- ---- acts
-
--- the deed is an act
-abbrev pub IsAct : Deed → Type 0
-IsAct (deed.Insert table rows) = Unit {0}
-IsAct (deed.Put table row) = Unit {0}
-IsAct (deed.Update table sets filter) = Unit {0}
-IsAct (deed.Delete table filter) = Unit {0}
-IsAct (deed.Select query) = Unit {0}
-IsAct (deed.Show table) = Unit {0}
-IsAct _ = ⊥
 
 -- the act is refused exactly where it has a cause; else it is what it stands for. Memory may be wanting at any point
 abbrev pub Resolves : Catalog → Deed → Result Act SetupError → Type 0

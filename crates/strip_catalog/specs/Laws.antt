@@ -1,13 +1,19 @@
 -- What every catalog is.
-use Rattle.std.specs.Prelude.{◌≡◌, ℕ, ◌+◌, ◌*◌, ◌<◌, ◌≤◌, true, false, ◌⊎◌, List, [], ◌∷◌, Some, None, get_or, is_some, length, map}
-use Rattle.std.specs.List.{AllByRecursion}
+use Rattle.std.specs.Prelude.{◌≡◌, ℕ, ◌+◌, ◌*◌, ◌<◌, ◌≤◌, ◌==◌, Bool, true, ◌⊎◌, List, Some, None, get_or, is_some, length, map, slice_get}
+use Rattle.std.specs.List.{AllByRecursion, list_any}
+use Rattle.strip_value.specs.declared.rules.Function.{Function}
+use Rattle.strip_value.specs.declared.rules.Rule.{Rule}
+use Rattle.strip_value.specs.declared.tables.By.{By}
+use Rattle.strip_meaning.specs.Maintained.{Manner}
+use Rattle.strip_names.specs.Exists.{kept_number}
 use Rattle.strip_setup.specs.Small.{AreNarrow}
-use Rattle.strip_setup.specs.Catalog.{Catalog, function_number, has_name, table_number}
+use Rattle.strip_acts.specs.Laws.{AreApart, AreNamed}
+use Rattle.strip_setup.specs.Catalog.{Catalog, function_number, table_number}
 use Rattle.strip_setup.specs.Resolve.{no_function}
 use Rattle.strip_catalog.specs.Accepted.{IsDeclared}
 use Rattle.strip_meaning.specs.Contents.{def_at}
 use Rattle.strip_value.specs.declared.tables.TableDef.{TableDef}
-use Rattle.strip_setup.specs.Maintain.{query_in}
+use Rattle.strip_setup.specs.Maintain.{made_function, made_rule, query_in}
 use Rattle.strip_meaning.specs.First.{IsBase}
 use Rattle.strip_meaning.specs.First.{IsFirst}
 use Rattle.strip_catalog.specs.First.{is_first}
@@ -25,11 +31,6 @@ pub record IsSmall (catalog : Catalog) : Type 0 where
 abbrev pub CatalogsAreSmall : Type 0
 CatalogsAreSmall = (catalog : Catalog) → IsDeclared catalog → IsSmall catalog
 
--- no name stands twice
-abbrev pub AreApart : List (List ℕ) → Type 0
-AreApart [] = Unit {0}
-AreApart (name ∷ names) = (has_name names name ≡ false) × AreApart names
-
 -- tables have names of their own, and so have streams, functions and rules: names and numbers are one to one
 pub record HasOwnNames (catalog : Catalog) : Type 0 where
   pub tables : AreApart (map (λ table. table.name) catalog.tables)
@@ -39,6 +40,10 @@ pub record HasOwnNames (catalog : Catalog) : Type 0 where
 
 abbrev pub NamesAreTheirOwn : Type 0
 NamesAreTheirOwn = (catalog : Catalog) → IsDeclared catalog → HasOwnNames catalog
+
+-- tables and their columns have names of the grammar, and the columns of a table have names of their own
+abbrev pub TablesAreNamed : Type 0
+TablesAreNamed = (catalog : Catalog) → IsDeclared catalog → AreNamed catalog.tables
 
 -- the name of each number stands for that number
 pub record NamesItsNumbers (catalog : Catalog) : Type 0 where
@@ -63,3 +68,24 @@ IsTableOf tables def = IsBase def ⊎ IsDerivedTable tables def
 -- each table is a base table or a derived one
 abbrev pub TablesAreSound : Type 0
 TablesAreSound = (catalog : Catalog) → IsDeclared catalog → AllByRecursion (IsTableOf catalog.tables) catalog.tables
+
+-- ---- tables that are declared to be kept
+
+-- a step of the function keeps the table
+abbrev pub keeps_table : Function → ℕ → Bool
+keeps_table function id = list_any (λ s. kept_number s == id) function.steps
+
+-- the table of a number is kept by one function and one rule, which are what is made of it, and by no others
+pub record IsKeptAlone (catalog : Catalog) (id : ℕ) : Type 0 where
+  pub how : By
+  pub manner : Manner
+  pub function : ℕ
+  pub rule : ℕ
+  pub kept : (def_at catalog.tables id).kept ≡ Some how
+  pub is_function : slice_get catalog.functions function ≡ Some (made_function how (def_at catalog.tables id) id)
+  pub is_rule : slice_get catalog.rules rule ≡ Some (made_rule how (def_at catalog.tables id) function manner)
+  pub no_other_function : (other : ℕ) (f : Function) → slice_get catalog.functions other ≡ Some f → keeps_table f id ≡ true → other ≡ function
+  pub no_other_rule : (other : ℕ) (r : Rule) → slice_get catalog.rules other ≡ Some r → r.function ≡ function → other ≡ rule
+
+abbrev pub DeclaredTablesAreKept : Type 0
+DeclaredTablesAreKept = (catalog : Catalog) → IsDeclared catalog → (id : ℕ) → id < length catalog.tables → (def_at catalog.tables id).declared ≡ true → IsKeptAlone catalog id

@@ -6,6 +6,7 @@ pub mod First
 pub mod Sums
 pub mod Laws
 pub mod Calls
+pub mod Suiting
 pub mod Writing
 pub mod Examples
 pub mod TableExamples

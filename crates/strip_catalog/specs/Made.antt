@@ -1,5 +1,5 @@
 -- What is made of derived tables that are to be kept.
-use Rattle.std.specs.Prelude.{◌≡◌, ℕ, true, List, [], ◌∷◌, length, slice_get}
+use Rattle.std.specs.Prelude.{◌≡◌, ℕ, true, List, ◌∷◌, length, slice_get}
 use Rattle.strip_value.specs.declared.rules.Function.{Function}
 use Rattle.strip_value.specs.declared.rules.Step.{Step}
 use Rattle.strip_value.specs.declared.rules.Step.TheVariants as step

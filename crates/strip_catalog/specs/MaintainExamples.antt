@@ -1,21 +1,17 @@
 -- Tables that are to be kept: what is made of them, and what is refused.
-use Rattle.std.specs.Prelude.{◌≡◌, true, codes, pos, List, [], ◌∷◌, Some, None, refl}
+use Rattle.std.specs.Prelude.{◌≡◌, true, codes, pos, [], ◌∷◌, Some, None, refl}
 use Prim.Native.String.{String}
 use Rattle.strip_value.specs.declared.expressions.Calc.TheVariants as calc
 use Rattle.strip_value.specs.declared.expressions.Calc.{Calc}
 use Rattle.strip_value.specs.declared.expressions.Test.TheVariants as test
 use Rattle.strip_value.specs.declared.queries.Input.{Input}
 use Rattle.strip_value.specs.declared.queries.Input.TheVariants as input
-use Rattle.strip_value.specs.declared.queries.Item.{Item}
 use Rattle.strip_value.specs.declared.queries.What.TheVariants as what
 use Rattle.strip_value.specs.declared.rules.BoundQuery.{BoundQuery}
 use Rattle.strip_value.specs.declared.rules.Event.TheVariants as event
-use Rattle.strip_value.specs.declared.rules.Function.{Function}
-use Rattle.strip_value.specs.declared.rules.Rule.{Rule}
 use Rattle.strip_value.specs.declared.rules.Step.TheVariants as step
 use Rattle.strip_value.specs.declared.tables.By.{By}
 use Rattle.strip_value.specs.declared.tables.By.TheVariants as by
-use Rattle.strip_value.specs.declared.tables.TableDef.{TableDef}
 use Rattle.strip_value.specs.Trees as tree
 use Rattle.strip_ast.specs.declared.rules.Manner.{Manner}
 use Rattle.strip_ast.specs.declared.statements.Statement.{Statement}

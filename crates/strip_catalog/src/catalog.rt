@@ -1,13 +1,16 @@
 //! What is declared.
-ghost use Rattle.std.specs.Prelude.{◌≡◌, ◌<◌, ◌≤◌, length, option_copied, IfOk};
+ghost use Rattle.std.specs.Prelude.{◌≡◌, ◌<◌, ◌≤◌, true, length, option_copied, IfOk};
 ghost use Rattle.std.specs.Option.{IfSome};
 ghost use Rattle.strip_setup.specs.Small.{AreNarrow};
 ghost use Rattle.strip_meaning.specs.Contents.{def_at};
-ghost use Rattle.strip_catalog.specs.Accepted.{IsDeclared, IsWritten};
+ghost use Rattle.strip_catalog.specs.Accepted.{HasText, IsDeclared};
 ghost use Rattle.strip_catalog.specs.declared.additions.Addition.TheVariants as addition;
-ghost use Rattle.strip_catalog.specs.Calls.{Adds, BecomesReady, IsAct, IsDeclaration, Installs, Resolves, with_addition};
+ghost use Rattle.strip_catalog.specs.Calls.{Adds, BecomesReady, IsDeclaration, Installs, Resolves, with_addition};
 ghost use Rattle.strip_catalog.specs.First.{first_made};
 ghost use Rattle.strip_catalog.specs.Made.{IsMade, statement_of};
+ghost use Rattle.strip_catalog.specs.Suiting.{IsMeant, StandsFor, SuitsWhere};
+ghost use Rattle.strip_acts.specs.Trees.{tree_of as tree_by_names};
+ghost use Rattle.strip_acts.specs.Writable.{IsAct, is_written};
 ghost use Rattle.strip_setup.specs.Catalog.{nothing, stream_named, table_number};
 
 use crate::additions::{Addition, addition_of};
@@ -16,6 +19,7 @@ use crate::made::Made;
 use crate::refusing::{refuse, refuse_act};
 use std::alloc::{AllocError, Global};
 use std::marker::Model;
+use strip_acts::{suits, tree_of};
 use strip_ast::{Deed, Statement};
 use strip_setup::SetupError;
 use strip_setup::acts::act_of;
@@ -162,7 +166,7 @@ impl Catalog {
     /// Declares what the statement says, or refuses it; a refusal changes nothing.
     pub fn add(&mut self, statement: &Statement) -> Result<(), SetupError>
         requires declaration { IsDeclaration statement.now }
-        requires written { IsWritten statement.now }
+        requires written { HasText statement.now }
         ensures { Adds self.old statement.now self.new result }
     {
         let setup = self.setup();
@@ -197,13 +201,32 @@ impl Catalog {
     /// What an act stands for: its names replaced by numbers. It is refused as a statement would be.
     pub fn act(&self, deed: &Deed) -> Result<Act, SetupError>
         requires act { IsAct deed.now }
-        ensures { Resolves self.now deed.now result }
+        ensures resolves { Resolves self.now deed.now result }
+        ensures suits { is_written deed.now ≡ true → IfOk result (IsMeant self.now) }
     {
         refuse_act(self.alloc, &self.setup(), deed)?;
         match act_of(self.alloc, self.tables.as_slice(), deed) {
             Ok(act) => Ok(act),
             Err(_) => Err(SetupError::Memory),
         }
+    }
+
+    /// Whether the act could be asked of these tables in words: some deed that has a text stands for it. An act that suits has
+    /// its tables and columns there, and no number that it computes is too wide.
+    pub fn suits(&self, act: &Act) -> bool
+        ensures { SuitsWhere self.now act.now result }
+    {
+        suits(self.tables.as_slice(), act)
+    }
+
+    /// A deed that stands for an act: its numbers replaced by names, the entries of a query called `e1`, `e2` and `e3`. It is
+    /// for writing an act down, and gives the same act again.
+    pub fn tree_of(&self, act: &Act) -> Result<Deed, AllocError>
+        requires { IsMeant self.now act.now }
+        ensures stands { IfOk result (λ deed. StandsFor self.now deed act.now) }
+        ensures tree { IfOk result (λ deed. deed ≡ tree_by_names self.now.tables act.now) }
+    {
+        tree_of(self.alloc, self.tables.as_slice(), act)
     }
 
     /// Ends setup, or answers `Closed` where it was over.

@@ -1,5 +1,5 @@
 //! Laws of catalogs: the contracts of functions that do nothing. The statements stand in `specs/Laws.antt`.
-ghost use Rattle.strip_catalog.specs.Laws.{CatalogsAreSmall, NamesAreTheirOwn, NamesStandForNumbers, TablesAreSound};
+ghost use Rattle.strip_catalog.specs.Laws.{CatalogsAreSmall, DeclaredTablesAreKept, NamesAreTheirOwn, NamesStandForNumbers, TablesAreNamed, TablesAreSound};
 
 /// There are at most 64 tables, streams and functions, and 128 rules; a table has at most 16 columns.
 pub fn catalogs_are_small()
@@ -11,6 +11,11 @@ pub fn names_are_their_own()
     ensures { NamesAreTheirOwn }
 {}
 
+/// The names of tables and of their columns are names of the grammar, and no two columns of a table have one name.
+pub fn tables_are_named()
+    ensures { TablesAreNamed }
+{}
+
 /// The name of each table stands for the number of that table, and so does the name of each function.
 pub fn names_stand_for_numbers()
     ensures { NamesStandForNumbers }
@@ -20,4 +25,10 @@ pub fn names_stand_for_numbers()
 /// query gives.
 pub fn tables_are_sound()
     ensures { TablesAreSound }
+{}
+
+/// A table that is declared to be kept has the function and the rule that are made of it. No other function keeps it, and no
+/// other rule executes that function.
+pub fn declared_tables_are_kept()
+    ensures { DeclaredTablesAreKept }
 {}

@@ -1,34 +1,26 @@
 //! What a catalog answers to statements, as replies of a script are written.
 ghost use Rattle.std.specs.Prelude.{◌↔◌, IsTrue};
-ghost use Rattle.strip_catalog.specs.Accepted.{IsWritten};
-ghost use Rattle.strip_catalog.specs.Calls.{IsAct, IsDeclaration};
+ghost use Rattle.strip_catalog.specs.Accepted.{HasText};
+ghost use Rattle.strip_acts.specs.Writable.{IsAct};
+ghost use Rattle.strip_catalog.specs.Calls.{IsDeclaration};
 
 use std::alloc::{AllocError, Global};
 use std::str;
 use strip_ast::{Deed, Manner, ParseFail, Statement};
 use strip_catalog::{Catalog, SetupError};
 use strip_parse::parse;
-use strip_value::{By, Name};
+use strip_value::{Act, By, Name};
 
-fn name_text(alloc: Global, word: &str, name: &Name) -> Result<String, AllocError> {
-    let name = str::from_utf8(name.bytes()).unwrap_or("?");
-    format!(in alloc; "{word} {name}")
+/// Bytes of a text that is ASCII.
+fn ascii(alloc: Global, text: &[u8]) -> Result<String, AllocError> {
+    String::from_str(alloc, str::from_utf8(text).unwrap_or("?"))
 }
 
 /// The text of a refusal.
 fn refusal_text(alloc: Global, error: &SetupError) -> Result<String, AllocError> {
     match error {
-        SetupError::Exists { name } => name_text(alloc, "Exists", name),
-        SetupError::Unknown { name } => name_text(alloc, "Unknown", name),
-        SetupError::Limit { what, at } => format!(in alloc; "Limit {what:?} {at}"),
-        SetupError::KindMismatch { column: Some(name) } => name_text(alloc, "KindMismatch", name),
-        SetupError::KindMismatch { column: None } => format!(in alloc; "KindMismatch -"),
-        SetupError::TooWide { magnitude } => format!(in alloc; "TooWide {magnitude}"),
-        SetupError::ReadsDerived { name } => name_text(alloc, "ReadsDerived", name),
-        SetupError::NotBound { column } => name_text(alloc, "NotBound", column),
-        SetupError::BoundDiffers { function } => name_text(alloc, "BoundDiffers", function),
         SetupError::Memory => Err(AllocError),
-        other => format!(in alloc; "{other:?}"),
+        cause => ascii(alloc, cause.text(alloc)?.as_slice()),
     }
 }
 
@@ -84,12 +76,28 @@ fn keep(
     }
 }
 
+/// The text of a deed for which no caller is named.
+fn deed_text(alloc: Global, deed: Deed) -> Result<String, AllocError> {
+    let statement = Statement::Deed { caller: None, deed };
+    let bytes = statement.print(alloc)?;
+    ascii(alloc, bytes.as_slice())
+}
+
+/// `ok`, and how the act is written by the numbers of its tables and columns.
+fn written(alloc: Global, catalog: &Catalog, act: &Act) -> Result<String, AllocError> {
+    if !catalog.suits(act) {
+        return format!(in alloc; "ok, but it does not suit");
+    }
+    let text = deed_text(alloc, catalog.tree_of(act)?)?;
+    format!(in alloc; "ok: {text}")
+}
+
 fn act(alloc: Global, catalog: &Catalog, deed: &Deed) -> Result<String, AllocError> {
     if !is_act(deed) {
         return format!(in alloc; "no act");
     }
     match catalog.act(deed) {
-        Ok(_act) => format!(in alloc; "ok"),
+        Ok(act) => written(alloc, catalog, &act),
         Err(error) => refusal_text(alloc, &error),
     }
 }
@@ -100,7 +108,7 @@ fn statement_answer(
     catalog: &mut Catalog,
     statement: &Statement,
 ) -> Result<String, AllocError>
-    requires { IsWritten statement.now }
+    requires { HasText statement.now }
 {
     if is_declaration(statement) {
         return text_of(alloc, catalog.add(statement));
@@ -117,7 +125,7 @@ fn statement_answer(
 fn text_answer(alloc: Global, catalog: &mut Catalog, text: &str) -> Result<String, AllocError> {
     match parse(alloc, text.as_bytes()) {
         Ok(statement) => statement_answer(alloc, catalog, &statement),
-        Err(ParseFail::Fault(fault)) => format!(in alloc; "Parse {} {:?}", fault.at, fault.why),
+        Err(ParseFail::Fault(fault)) => ascii(alloc, fault.text(alloc)?.as_slice()),
         Err(ParseFail::Memory) => Err(AllocError),
     }
 }
@@ -153,12 +161,18 @@ fn last_answer(alloc: Global, catalog: &mut Catalog, text: &str) -> Result<Strin
     Ok(last)
 }
 
-/// What a new catalog answers to the last of these statements.
-pub(crate) fn answer(alloc: Global, before: &str, line: &str) -> Result<String, AllocError> {
+/// What these statements declare.
+pub(crate) fn declared(alloc: Global, line: &str) -> Result<Catalog, AllocError> {
     let mut catalog = Catalog::new(alloc);
-    for text in before.split(';') {
+    for text in line.split(';') {
         text_answer(alloc, &mut catalog, text)?;
     }
+    Ok(catalog)
+}
+
+/// What such a catalog, as it stands before the line, answers to the last of its statements.
+pub(crate) fn answer(alloc: Global, before: &Catalog, line: &str) -> Result<String, AllocError> {
+    let mut catalog = before.copy()?;
     let mut last = String::new(alloc);
     for text in line.split(';') {
         last = last_answer(alloc, &mut catalog, text)?;

@@ -7,18 +7,19 @@
 
 mod answers;
 
-use crate::answers::answer;
+use crate::answers::{answer, declared};
 use std::io;
+use strip_catalog::Catalog;
 
 fn main(rt: HostRuntime) -> io::Result<()> {
-    let mut before: Option<String> = None;
+    let mut before: Option<Catalog> = None;
     for line in rt.lines(rt.alloc()) {
         let line = line?;
         match &before {
-            None => before = Some(line),
+            None => before = Some(declared(rt.alloc(), line.as_str())?),
             Some(_) if line.as_str().starts_with('#') => println!(rt; "{line}")?,
-            Some(declared) => {
-                let answer = answer(rt.alloc(), declared.as_str(), line.as_str())?;
+            Some(catalog) => {
+                let answer = answer(rt.alloc(), catalog, line.as_str())?;
                 println!(rt; "{line} -> {answer}")?;
             }
         }
