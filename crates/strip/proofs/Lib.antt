@@ -7,6 +7,7 @@ pub mod KeepingLaws
 pub mod SoundLaws
 pub mod IdleLaws
 pub mod AnswerLaws
+pub mod TimelyLaws
 pub mod ShownLaws
 pub mod RunState
 pub mod StatusLaws

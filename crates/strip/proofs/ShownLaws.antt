@@ -31,7 +31,7 @@ use Rattle.strip_engine.proofs.KeeperRules.{fired_is}
 use Rattle.strip_engine.proofs.QuietTables.{quiet_tables_are_queries}
 use Rattle.strip.specs.declared.alone.Outcome.TheVariants.{Replied}
 use Rattle.strip.specs.Forms.{order_in}
-use Rattle.strip.specs.Script.{Stage, act_step, after_call, done_alone, empty, is_refusal, order_step, outcome_text, replies, running, show_at, stage_after, step}
+use Rattle.strip.specs.Script.{Stage, act_step, after_call, done_alone, empty, is_refusal, outcome_text, read_step, replies, running, show_at, stage_after, step}
 use Rattle.strip.specs.Shown.{IsQuietShow, QuietShowsAreQueries, rows_asked}
 use Rattle.strip.specs.Stages.{IsAtRest, IsSound}
 use Rattle.strip.proofs.AloneLaws.{commit_entry, replied}
@@ -167,8 +167,8 @@ module _ (most : ℕ) (before : List Piece) (bytes : List ℕ) (f : Fixed) (past
   text_is : (step (running f past) (Statement bytes)).text ≡ rows_text (rows_asked f past id)
   unfolding step line_of_reply
   text_is =
-      ap (λ b. (cond b (record { text = []; refused = false; stage = running f past }) (order_step (running f past) (order_in bytes))).text) q.worded
-      ∙ ap (λ o. (order_step (running f past) o).text) q.shows
+      ap (λ b. (cond b (record { text = []; refused = false; stage = running f past }) (read_step (running f past) (order_in bytes))).text) q.worded
+      ∙ ap (λ o. (read_step (running f past) o).text) q.shows
       ∙ ap (λ o. (act_step f past (show_at o)).text) q.named
       ∙ ap (outcome_text f.defs) outcome_here
       ∙ ap rows_text rows_are

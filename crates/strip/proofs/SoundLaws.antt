@@ -22,10 +22,11 @@ use Rattle.strip_engine.specs.Setup.{AreTables}
 use Rattle.strip_engine.specs.State.{fixed_by}
 use Rattle.strip.specs.declared.orders.Derivation.{Derivation}
 use Rattle.strip.specs.declared.orders.Order.{Order}
-use Rattle.strip.specs.declared.orders.Order.TheVariants.{Declare, Derive, Maintain, Ready, Put, Show, Start, Finish}
+use Rattle.strip.specs.declared.orders.Order.TheVariants.{Declare, Derive, Maintain, Ready, Put, Show, Start, Finish, Fault}
 use Rattle.strip.specs.Derived.{derived_by, derived_over, form_of, is_int, kept_by_sums, kind_at}
 use Rattle.strip.specs.Forms.{number_of, order_in}
-use Rattle.strip.specs.Script.{Stage, empty, declared, derived, running, act_step, derive_step, finish_step, maintain_step, order_step, put_at, put_into, show_at, show_of, stage_after, statement_step, step, table_named, takes_row, with_said}
+use Rattle.strip.specs.Refusals.{line_of_not_ready}
+use Rattle.strip.specs.Script.{Stage, empty, declared, derived, running, act_step, derive_step, finish_step, maintain_step, is_late, is_ready, order_step, put_at, put_into, read_step, refusing, show_at, show_of, stage_after, statement_step, step, table_named, timely_step, takes_row, with_said}
 use Rattle.strip.specs.Stages.{DeclaresWell, HasThreeNames, IsAtRest, IsOver, IsSound}
 use Rattle.strip.proofs.AloneLaws.{alone_ends, alone_legal}
 use Rattle.strip.proofs.BaseLaws.{base_in, below_found}
@@ -180,12 +181,23 @@ order_sound (running f past) Start sound well = start_sound f past sound
 order_sound (running f past) (Finish number) sound well = finish_sound f past number sound
 order_sound (running f past) _ sound well = sound
 
+timely_sound : (stage : Stage) (order : Order) → IsSound stage → DeclaresWell order → IsSound (timely_step stage order).stage
+timely_sound stage order sound well = by_test (is_late order && not (is_ready stage))
+  where
+    by_test : (b : Bool) → IsSound (cond b (refusing stage line_of_not_ready) (order_step stage order)).stage
+    by_test true = sound
+    by_test false = order_sound stage order sound well
+
+read_sound : (stage : Stage) (order : Order) → IsSound stage → DeclaresWell order → IsSound (read_step stage order).stage
+read_sound stage (Fault fault) sound well = sound
+read_sound stage order sound well = timely_sound stage order sound well
+
 statement_sound : (stage : Stage) (bytes : List ℕ) → IsSound stage → IsSound (statement_step stage bytes).stage
 statement_sound stage bytes sound = by_test (list_all is_blank bytes)
   where
-    by_test : (b : Bool) → IsSound (cond b (record { text = []; refused = false; stage = stage }) (order_step stage (order_in bytes))).stage
+    by_test : (b : Bool) → IsSound (cond b (record { text = []; refused = false; stage = stage }) (read_step stage (order_in bytes))).stage
     by_test true = sound
-    by_test false = order_sound stage (order_in bytes) sound (base_in bytes)
+    by_test false = read_sound stage (order_in bytes) sound (base_in bytes)
 
 step_sound : (stage : Stage) (p : Piece) → IsSound stage → IsSound (step stage p).stage
 unfolding step

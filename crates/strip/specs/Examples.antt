@@ -12,6 +12,7 @@ use Rattle.strip_meaning.specs.Effect.{effect}
 use Rattle.strip_meaning.specs.Firing.{fired}
 use Rattle.strip_model.specs.Texts.{line_of_reply, line_of_spent, line_of_job, line_of_empty, line_of_finished, line_of_not_running}
 use Rattle.strip.specs.Forms.{order_of, order_in}
+use Rattle.strip_ast.specs.Faults.{fault_text}
 use Rattle.strip_ast.specs.Syntax.{names, column, columns, table, stream, step as grammar_step, function, dotted, col, atom, factor, product, sum, comparing, compare, test, conj, expression, whole, item, totalled, total, source, entry, filter, rest, query, plain, derive, enclosed_names, event, bound, unique, manner, trigger, effect as effect_of_rule, rule, maintain, a_value, row, set, insert, put, update, delete, act, begin, show, deed, called, statement}
 use Rattle.strip_parse.specs.Reading.{take_inside}
 use Rattle.strip_parse.specs.Parsed.{reading, parsed}
@@ -25,18 +26,18 @@ nothing = refl
 pub stocks :
     answer 10 (codes "table stocks (symbol text, price int, key symbol); ready; put stocks ('IBM', 100); put stocks ('IBM', 101); show stocks;")
     ≡ codes "ok\nok\ncount 1\ncount 1\nrows 1\n('IBM', 101)\n"
-unfolding pieces tuple_text keyword_of symbol_of token_at tokens_of names column columns table stream grammar_step function dotted col atom factor product sum comparing compare test conj expression whole item totalled total source entry filter rest query plain derive enclosed_names event bound unique manner trigger effect_of_rule rule maintain a_value row set insert put update delete act begin show deed called statement take_inside reading parsed effect line_of_reply order_of order_in step answer digits is_utf8 chars encode_utf8
+unfolding pieces tuple_text keyword_of symbol_of token_at tokens_of names column columns table stream grammar_step function dotted col atom factor product sum comparing compare test conj expression whole item totalled total source entry filter rest query plain derive enclosed_names event bound unique manner trigger effect_of_rule rule maintain a_value row set insert put update delete act begin show deed called statement take_inside reading parsed effect line_of_reply fault_text order_of order_in step answer digits is_utf8 chars encode_utf8
 stocks = refl
 
--- what isn't built changes nothing
-pub not_built_yet :
+-- bytes that are no statement change nothing
+pub no_statement :
     answer 10 (codes "table t (a int, key a); ready; put t (1); put t (1); drop t; show t;")
-    ≡ codes "ok\nok\ncount 1\ncount 1\nrefused NotBuilt\nrows 1\n(1)\n"
-unfolding pieces tuple_text keyword_of symbol_of token_at tokens_of names column columns table stream grammar_step function dotted col atom factor product sum comparing compare test conj expression whole item totalled total source entry filter rest query plain derive enclosed_names event bound unique manner trigger effect_of_rule rule maintain a_value row set insert put update delete act begin show deed called statement take_inside reading parsed effect line_of_reply order_of order_in step answer digits
-not_built_yet = refl
+    ≡ codes "ok\nok\ncount 1\ncount 1\nrefused Parse 1 Unexpected\nrows 1\n(1)\n"
+unfolding pieces tuple_text keyword_of symbol_of token_at tokens_of names column columns table stream grammar_step function dotted col atom factor product sum comparing compare test conj expression whole item totalled total source entry filter rest query plain derive enclosed_names event bound unique manner trigger effect_of_rule rule maintain a_value row set insert put update delete act begin show deed called statement take_inside reading parsed effect line_of_reply fault_text order_of order_in step answer digits
+no_statement = refl
 
 pub one_is_refused : is_refused 10 (codes "table t (a int, key a); ready; drop t;") ≡ true
-unfolding pieces tuple_text keyword_of symbol_of token_at tokens_of names column columns table stream grammar_step function dotted col atom factor product sum comparing compare test conj expression whole item totalled total source entry filter rest query plain derive enclosed_names event bound unique manner trigger effect_of_rule rule maintain a_value row set insert put update delete act begin show deed called statement take_inside reading parsed effect line_of_reply order_of order_in step is_refused digits
+unfolding pieces tuple_text keyword_of symbol_of token_at tokens_of names column columns table stream grammar_step function dotted col atom factor product sum comparing compare test conj expression whole item totalled total source entry filter rest query plain derive enclosed_names event bound unique manner trigger effect_of_rule rule maintain a_value row set insert put update delete act begin show deed called statement take_inside reading parsed effect line_of_reply fault_text order_of order_in step is_refused digits
 one_is_refused = refl
 
 pub nothing_is_refused : is_refused 10 [] ≡ false
@@ -44,68 +45,68 @@ unfolding pieces is_refused
 nothing_is_refused = refl
 
 pub no_put_is_refused : is_refused 10 (codes "table t (a int, key a); ready; put t (1); show t;") ≡ false
-unfolding pieces tuple_text keyword_of symbol_of token_at tokens_of names column columns table stream grammar_step function dotted col atom factor product sum comparing compare test conj expression whole item totalled total source entry filter rest query plain derive enclosed_names event bound unique manner trigger effect_of_rule rule maintain a_value row set insert put update delete act begin show deed called statement take_inside reading parsed effect line_of_reply order_of order_in step is_refused digits is_utf8 chars encode_utf8
+unfolding pieces tuple_text keyword_of symbol_of token_at tokens_of names column columns table stream grammar_step function dotted col atom factor product sum comparing compare test conj expression whole item totalled total source entry filter rest query plain derive enclosed_names event bound unique manner trigger effect_of_rule rule maintain a_value row set insert put update delete act begin show deed called statement take_inside reading parsed effect line_of_reply fault_text order_of order_in step is_refused digits is_utf8 chars encode_utf8
 no_put_is_refused = refl
 
--- a last piece without its `;` has no form
+-- a last piece without its `;` is refused unread
 pub unended :
     answer 10 (codes "table t (a int, key a); ready; show t")
-    ≡ codes "ok\nok\nrefused NotBuilt\n"
-unfolding pieces tuple_text keyword_of symbol_of token_at tokens_of names column columns table stream grammar_step function dotted col atom factor product sum comparing compare test conj expression whole item totalled total source entry filter rest query plain derive enclosed_names event bound unique manner trigger effect_of_rule rule maintain a_value row set insert put update delete act begin show deed called statement take_inside reading parsed effect line_of_reply order_of order_in step answer digits is_utf8 chars encode_utf8
+    ≡ codes "ok\nok\nrefused Unended\n"
+unfolding pieces tuple_text keyword_of symbol_of token_at tokens_of names column columns table stream grammar_step function dotted col atom factor product sum comparing compare test conj expression whole item totalled total source entry filter rest query plain derive enclosed_names event bound unique manner trigger effect_of_rule rule maintain a_value row set insert put update delete act begin show deed called statement take_inside reading parsed effect line_of_reply fault_text order_of order_in step answer digits is_utf8 chars encode_utf8
 unended = refl
 
 -- rows stand in the order of the key's columns, which may be another than that of the columns
 pub two_keys :
     answer 10 (codes "table t (a int, b int, key b, a); ready; put t (1, 2); put t (2, -1); show t;")
     ≡ codes "ok\nok\ncount 1\ncount 1\nrows 2\n(2, -1)\n(1, 2)\n"
-unfolding pieces tuple_text keyword_of symbol_of token_at tokens_of names column columns table stream grammar_step function dotted col atom factor product sum comparing compare test conj expression whole item totalled total source entry filter rest query plain derive enclosed_names event bound unique manner trigger effect_of_rule rule maintain a_value row set insert put update delete act begin show deed called statement take_inside reading parsed effect line_of_reply order_of order_in step answer digits is_utf8 chars encode_utf8
+unfolding pieces tuple_text keyword_of symbol_of token_at tokens_of names column columns table stream grammar_step function dotted col atom factor product sum comparing compare test conj expression whole item totalled total source entry filter rest query plain derive enclosed_names event bound unique manner trigger effect_of_rule rule maintain a_value row set insert put update delete act begin show deed called statement take_inside reading parsed effect line_of_reply fault_text order_of order_in step answer digits is_utf8 chars encode_utf8
 two_keys = refl
 
 -- a row that isn't of the table's columns has no form
 pub no_fit :
     answer 10 (codes "table t (a int, key a); ready; put t ('1'); put t (2147483648); put t (1, 2); show t;")
     ≡ codes "ok\nok\nrefused NotBuilt\nrefused NotBuilt\nrefused NotBuilt\nrows 0\n"
-unfolding pieces tuple_text keyword_of symbol_of token_at tokens_of names column columns table stream grammar_step function dotted col atom factor product sum comparing compare test conj expression whole item totalled total source entry filter rest query plain derive enclosed_names event bound unique manner trigger effect_of_rule rule maintain a_value row set insert put update delete act begin show deed called statement take_inside reading parsed effect line_of_reply order_of order_in step answer digits is_utf8 chars encode_utf8
+unfolding pieces tuple_text keyword_of symbol_of token_at tokens_of names column columns table stream grammar_step function dotted col atom factor product sum comparing compare test conj expression whole item totalled total source entry filter rest query plain derive enclosed_names event bound unique manner trigger effect_of_rule rule maintain a_value row set insert put update delete act begin show deed called statement take_inside reading parsed effect line_of_reply fault_text order_of order_in step answer digits is_utf8 chars encode_utf8
 no_fit = refl
 
 -- each statement has its stage
 pub out_of_turn :
     answer 10 (codes "show t; ready; table t (a int, key a); table u (a int, key a); put t (1); ready; ready;")
-    ≡ codes "refused NotBuilt\nrefused NotBuilt\nok\nrefused NotBuilt\nrefused NotBuilt\nok\nrefused NotBuilt\n"
-unfolding pieces tuple_text keyword_of symbol_of token_at tokens_of names column columns table stream grammar_step function dotted col atom factor product sum comparing compare test conj expression whole item totalled total source entry filter rest query plain derive enclosed_names event bound unique manner trigger effect_of_rule rule maintain a_value row set insert put update delete act begin show deed called statement take_inside reading parsed effect line_of_reply order_of order_in step answer digits is_utf8 chars encode_utf8
+    ≡ codes "refused NotReady\nrefused NotBuilt\nok\nrefused NotBuilt\nrefused NotReady\nok\nrefused NotBuilt\n"
+unfolding pieces tuple_text keyword_of symbol_of token_at tokens_of names column columns table stream grammar_step function dotted col atom factor product sum comparing compare test conj expression whole item totalled total source entry filter rest query plain derive enclosed_names event bound unique manner trigger effect_of_rule rule maintain a_value row set insert put update delete act begin show deed called statement take_inside reading parsed effect line_of_reply fault_text order_of order_in step answer digits is_utf8 chars encode_utf8
 out_of_turn = refl
 
 -- a table needs a key among its columns, which differ
 pub no_tables :
     answer 10 (codes "table t (a int); table t (a int, key b); table t (a int, a int, key a); table t (a int, key a) limit 5;")
     ≡ codes "refused NotBuilt\nrefused NotBuilt\nrefused NotBuilt\nrefused NotBuilt\n"
-unfolding pieces tuple_text keyword_of symbol_of token_at tokens_of names column columns table stream grammar_step function dotted col atom factor product sum comparing compare test conj expression whole item totalled total source entry filter rest query plain derive enclosed_names event bound unique manner trigger effect_of_rule rule maintain a_value row set insert put update delete act begin show deed called statement take_inside reading parsed effect line_of_reply order_of order_in step answer digits is_utf8 chars encode_utf8
+unfolding pieces tuple_text keyword_of symbol_of token_at tokens_of names column columns table stream grammar_step function dotted col atom factor product sum comparing compare test conj expression whole item totalled total source entry filter rest query plain derive enclosed_names event bound unique manner trigger effect_of_rule rule maintain a_value row set insert put update delete act begin show deed called statement take_inside reading parsed effect line_of_reply fault_text order_of order_in step answer digits is_utf8 chars encode_utf8
 no_tables = refl
 
 -- a row of a group, and another in its place; each commit makes an action, and the second one is finished first
 pub kept_by_sums :
     answer 10 (codes "table t (id int, g int, v int, key id); derive d as select g, sum(v) as s, count(*) as n from t group by g; maintain d by sum; ready; put t (1, 7, 5); put t (1, 7, 6); show d; start; start; start; finish 2; show d; finish 1; show d; finish 1;")
     ≡ codes "ok\nok\nok\nok\ncount 1\ncount 1\nrows 0\njob 1 keep_d plain due 0 rows 1\njob 2 keep_d plain due 0 rows 2\nempty\nfinished 2\nrows 1\n(7, 1, 0)\nfinished 1\nrows 1\n(7, 6, 1)\nrefused NotRunning 1\n"
-unfolding pieces tuple_text keyword_of symbol_of token_at tokens_of names column columns table stream grammar_step function dotted col atom factor product sum comparing compare test conj expression whole item totalled total source entry filter rest query plain derive enclosed_names event bound unique manner trigger effect_of_rule rule maintain a_value row set insert put update delete act begin show deed called statement take_inside reading parsed mean effect fired line_of_reply line_of_spent line_of_job line_of_empty line_of_finished line_of_not_running order_of order_in step answer digits is_utf8 chars encode_utf8
+unfolding pieces tuple_text keyword_of symbol_of token_at tokens_of names column columns table stream grammar_step function dotted col atom factor product sum comparing compare test conj expression whole item totalled total source entry filter rest query plain derive enclosed_names event bound unique manner trigger effect_of_rule rule maintain a_value row set insert put update delete act begin show deed called statement take_inside reading parsed mean effect fired line_of_reply line_of_spent line_of_job line_of_empty line_of_finished line_of_not_running fault_text order_of order_in step answer digits is_utf8 chars encode_utf8
 kept_by_sums = refl
 
 -- where rules may bind one row, a second one is too many
 pub one_row_bound :
     answer 1 (codes "table t (id int, g int, v int, key id); derive d as select g, sum(v) as s, count(*) as n from t group by g; maintain d by sum; ready; put t (1, 7, 5); put t (2, 7, 6); show t;")
     ≡ codes "ok\nok\nok\nok\ncount 1\nrefused Spent 2\nrows 1\n(1, 7, 5)\n"
-unfolding pieces tuple_text keyword_of symbol_of token_at tokens_of names column columns table stream grammar_step function dotted col atom factor product sum comparing compare test conj expression whole item totalled total source entry filter rest query plain derive enclosed_names event bound unique manner trigger effect_of_rule rule maintain a_value row set insert put update delete act begin show deed called statement take_inside reading parsed mean effect fired line_of_reply line_of_spent line_of_job line_of_empty line_of_finished line_of_not_running order_of order_in step answer digits is_utf8 chars encode_utf8
+unfolding pieces tuple_text keyword_of symbol_of token_at tokens_of names column columns table stream grammar_step function dotted col atom factor product sum comparing compare test conj expression whole item totalled total source entry filter rest query plain derive enclosed_names event bound unique manner trigger effect_of_rule rule maintain a_value row set insert put update delete act begin show deed called statement take_inside reading parsed mean effect fired line_of_reply line_of_spent line_of_job line_of_empty line_of_finished line_of_not_running fault_text order_of order_in step answer digits is_utf8 chars encode_utf8
 one_row_bound = refl
 
 -- a derived table that isn't to be kept stays empty, and no row is put into it
 pub not_kept :
     answer 10 (codes "table t (id int, g text, v int, key id); derive d as select g, sum(v) as s, count(*) as n from t group by g; ready; put t (1, 'a', 5); start; put d ('a', 5, 1); show d;")
     ≡ codes "ok\nok\nok\ncount 1\nempty\nrefused NotBuilt\nrows 0\n"
-unfolding pieces tuple_text keyword_of symbol_of token_at tokens_of names column columns table stream grammar_step function dotted col atom factor product sum comparing compare test conj expression whole item totalled total source entry filter rest query plain derive enclosed_names event bound unique manner trigger effect_of_rule rule maintain a_value row set insert put update delete act begin show deed called statement take_inside reading parsed mean effect fired line_of_reply line_of_spent line_of_job line_of_empty line_of_finished line_of_not_running order_of order_in step answer digits is_utf8 chars encode_utf8
+unfolding pieces tuple_text keyword_of symbol_of token_at tokens_of names column columns table stream grammar_step function dotted col atom factor product sum comparing compare test conj expression whole item totalled total source entry filter rest query plain derive enclosed_names event bound unique manner trigger effect_of_rule rule maintain a_value row set insert put update delete act begin show deed called statement take_inside reading parsed mean effect fired line_of_reply line_of_spent line_of_job line_of_empty line_of_finished line_of_not_running fault_text order_of order_in step answer digits is_utf8 chars encode_utf8
 not_kept = refl
 
 -- a derived table is made of the one table and of columns of it, sums an `int`, has another name, and is kept once
 pub no_derived :
     answer 10 (codes "table t (id int, g text, v int, key id); derive d as select g, sum(v) as s, count(*) as n from u group by g; derive t as select g, sum(v) as s, count(*) as n from t group by g; derive d as select v, sum(g) as s, count(*) as n from t group by v; derive d as select g, sum(x) as s, count(*) as n from t group by g; derive d as select g, sum(v) as s, count(*) as n from t group by g; maintain t by sum; maintain d by sum; maintain d by sum; derive e as select g, sum(v) as s, count(*) as n from t group by g;")
     ≡ codes "ok\nrefused NotBuilt\nrefused NotBuilt\nrefused NotBuilt\nrefused NotBuilt\nok\nrefused NotBuilt\nok\nrefused NotBuilt\nrefused NotBuilt\n"
-unfolding pieces tuple_text keyword_of symbol_of token_at tokens_of names column columns table stream grammar_step function dotted col atom factor product sum comparing compare test conj expression whole item totalled total source entry filter rest query plain derive enclosed_names event bound unique manner trigger effect_of_rule rule maintain a_value row set insert put update delete act begin show deed called statement take_inside reading parsed mean effect fired line_of_reply line_of_spent line_of_job line_of_empty line_of_finished line_of_not_running order_of order_in step answer digits is_utf8 chars encode_utf8
+unfolding pieces tuple_text keyword_of symbol_of token_at tokens_of names column columns table stream grammar_step function dotted col atom factor product sum comparing compare test conj expression whole item totalled total source entry filter rest query plain derive enclosed_names event bound unique manner trigger effect_of_rule rule maintain a_value row set insert put update delete act begin show deed called statement take_inside reading parsed mean effect fired line_of_reply line_of_spent line_of_job line_of_empty line_of_finished line_of_not_running fault_text order_of order_in step answer digits is_utf8 chars encode_utf8
 no_derived = refl

@@ -21,7 +21,7 @@ use Rattle.strip_ast.specs.declared.statements.Statement.{Statement}
 use Rattle.strip_ast.specs.declared.statements.Statement.TheVariants as st
 use Rattle.strip_parse.specs.Parsed.{parsed}
 use Rattle.strip.specs.declared.orders.Order.{Order}
-use Rattle.strip.specs.declared.orders.Order.TheVariants.{Declare, Derive, Maintain, Ready, Put, Show, Start, Finish, Other}
+use Rattle.strip.specs.declared.orders.Order.TheVariants.{Declare, Derive, Maintain, Ready, Put, Show, Start, Finish, Other, Late, Fault}
 
 -- ---- tables
 
@@ -144,12 +144,12 @@ deed_of (deed.Put table row) = Put table row
 deed_of (deed.Show table) = Show table
 deed_of deed.Start = Start
 deed_of (deed.Finish number) = Finish number
-deed_of _ = Other
+deed_of _ = Late
 
 -- the same, if no caller is named
 abbrev pub called_of : Option ℕ → Deed → Order
 called_of None d = deed_of d
-called_of (Some caller) d = Other
+called_of (Some caller) d = Late
 
 -- what a statement asks for
 unfoldable pub order_of : Statement → Order
@@ -158,12 +158,13 @@ order_of (st.Derive name query) = derive_of name query
 order_of (st.Maintain name how manner) = maintain_of name how manner.unique manner.after
 order_of st.Ready = Ready
 order_of (st.Deed caller d) = called_of caller d
+order_of (st.At moment) = Late
 order_of _ = Other
 
--- what a tree asks for; a fault asks for nothing that is built
+-- what a tree asks for, or the fault
 abbrev pub order_parsed : Result Statement ParseError → Order
 order_parsed (Ok statement) = order_of statement
-order_parsed (Err fault) = Other
+order_parsed (Err fault) = Fault fault
 
 -- what the bytes of a statement ask for
 unfoldable pub order_in : List ℕ → Order

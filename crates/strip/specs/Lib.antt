@@ -1,6 +1,7 @@
 pub mod Forms
 pub mod Readings
 pub mod Derived
+pub mod Refusals
 pub mod Script
 pub mod Session
 pub mod Keeping

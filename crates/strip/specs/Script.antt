@@ -25,8 +25,9 @@ use Rattle.strip_engine.specs.State.{fixed_by}
 use Rattle.strip.specs.declared.alone.Outcome.{Outcome}
 use Rattle.strip.specs.declared.alone.Outcome.TheVariants.{Replied, Overspent}
 use Rattle.strip.specs.declared.orders.Order.{Order}
-use Rattle.strip.specs.declared.orders.Order.TheVariants.{Declare, Derive, Maintain, Ready, Put, Show, Start, Finish}
+use Rattle.strip.specs.declared.orders.Order.TheVariants.{Declare, Derive, Maintain, Ready, Put, Show, Start, Finish, Late, Fault}
 use Rattle.strip.specs.Forms.{order_in}
+use Rattle.strip.specs.Refusals.{line_of_fault, line_of_not_ready, line_of_oversize, line_of_unended}
 use Rattle.strip.specs.Derived.{derived_over, kept_by_sums}
 
 -- ---- an act in a transaction of its own
@@ -190,7 +191,7 @@ finish_said f past number said = finish_step f past number said.entry said.answe
 
 -- ---- a piece
 
--- what a statement is answered
+-- what a statement that is built, or isn't, is answered in its place
 abbrev pub order_step : Stage → Order → Step
 order_step (empty most) (Declare def) = accepted (declared most def)
 order_step (empty most) order = not_built (empty most)
@@ -206,17 +207,47 @@ order_step (running f past) Start = start_step f past (says f past (to_start 0 0
 order_step (running f past) (Finish number) = finish_said f past number (says f past (to_finish number))
 order_step (running f past) order = not_built (running f past)
 
+-- a refusal changes nothing
+abbrev pub refusing : Stage → List ℕ → Step
+refusing stage text = record { text = text; refused = true; stage = stage }
+
+-- the setup is closed
+abbrev pub is_ready : Stage → Bool
+is_ready (running f past) = true
+is_ready _ = false
+
+-- the statement belongs behind the setup
+abbrev pub is_late : Order → Bool
+is_late (Put table row) = true
+is_late (Show table) = true
+is_late Start = true
+is_late (Finish number) = true
+is_late Late = true
+is_late _ = false
+
+-- what a statement is answered: one that comes too early is refused, built or not
+abbrev pub timely_step : Stage → Order → Step
+timely_step stage order = if is_late order && not (is_ready stage) then refusing stage line_of_not_ready else order_step stage order
+
+-- bytes that are no statement are refused at any time
+abbrev pub read_step : Stage → Order → Step
+read_step stage (Fault fault) = refusing stage (line_of_fault fault)
+read_step stage order = timely_step stage order
+
+-- no reply
+abbrev pub silent : Stage → Step
+silent stage = record { text = []; refused = false; stage = stage }
+
 -- blanks have no reply
 abbrev pub statement_step : Stage → List ℕ → Step
-statement_step stage bytes =
-    if list_all is_blank bytes then record { text = []; refused = false; stage = stage } else order_step stage (order_in bytes)
+statement_step stage bytes = if list_all is_blank bytes then silent stage else read_step stage (order_in bytes)
 
--- what a piece is answered
+-- what a piece is answered; one that is too long is refused unread, and so is the rest behind the last `;`
 unfoldable pub step : Stage → Piece → Step
 step stage (Statement bytes) = statement_step stage bytes
-step stage (TooLong from len) = not_built stage
-step stage (Rest bytes) = not_built stage
-step stage End = not_built stage
+step stage (TooLong from len) = refusing stage (line_of_oversize len)
+step stage (Rest bytes) = refusing stage line_of_unended
+step stage End = silent stage
 
 -- ---- the script
 

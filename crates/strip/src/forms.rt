@@ -302,7 +302,7 @@ fn deed_order(deed: Deed) -> Order
         Deed::Show { table } => Order::Show { table },
         Deed::Start => Order::Start,
         Deed::Finish { number } => Order::Finish { number },
-        _ => Order::Other,
+        _ => Order::Late,
     }
 }
 
@@ -311,7 +311,7 @@ fn called_order(caller: Option<u32>, deed: Deed) -> Order
 {
     match caller {
         None => deed_order(deed),
-        Some(_) => Order::Other,
+        Some(_) => Order::Late,
     }
 }
 
@@ -330,10 +330,10 @@ fn statement_order(alloc: Global, statement: Statement) -> Result<Order, AllocEr
         Statement::Maintain { name, by, manner } => Ok(maintain_order(name, by, &manner)),
         Statement::Ready => Ok(Order::Ready),
         Statement::Deed { caller, deed } => Ok(called_order(caller, deed)),
-        Statement::Stream { .. }
-        | Statement::Function { .. }
-        | Statement::Rule { .. }
-        | Statement::At { .. } => Ok(Order::Other),
+        Statement::At { .. } => Ok(Order::Late),
+        Statement::Stream { .. } | Statement::Function { .. } | Statement::Rule { .. } => {
+            Ok(Order::Other)
+        }
     }
 }
 
@@ -344,7 +344,7 @@ pub(crate) fn order(alloc: Global, bytes: &[u8]) -> Result<Order, AllocError>
 {
     match parse(alloc, bytes) {
         Ok(statement) => statement_order(alloc, statement),
-        Err(ParseFail::Fault(_fault)) => Ok(Order::Other),
+        Err(ParseFail::Fault(fault)) => Ok(Order::Fault(fault)),
         Err(ParseFail::Memory) => Err(AllocError),
     }
 }

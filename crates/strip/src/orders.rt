@@ -1,3 +1,4 @@
+use strip_ast::ParseError;
 use strip_value::{Name, Row, TableDef};
 
 /// What a statement asks for, as far as it is built.
@@ -12,8 +13,12 @@ pub enum Order {
     Show { table: Name },
     Start,
     Finish { number: u128 },
-    /// Anything else.
+    /// Another statement for after the setup, which isn't built.
+    Late,
+    /// Another statement of the setup, which isn't built.
     Other,
+    /// Bytes that are no statement.
+    Fault(ParseError),
 }
 
 /// A derived table of a group column, a sum and a count over one table. The names of columns are those of

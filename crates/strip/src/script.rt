@@ -1,7 +1,7 @@
 //! What the pieces of a script are answered.
 ghost use Rattle.std.specs.Prelude.{◌≡◌, ◌≤◌, ◌^◌, ◌&&◌, not, length, IfOk, IfSome};
 ghost use Rattle.std.specs.List.{list_all};
-ghost use Rattle.strip.specs.Script.{step, accepted, all_tables, derive_step, maintain_step, opened_over, order_step, not_built, statement_step, act_step, outcome_text as text_of_outcome, is_refused_outcome, empty, declared, derived, running};
+ghost use Rattle.strip.specs.Script.{step, accepted, all_tables, derive_step, maintain_step, opened_over, order_step, not_built, refusing, read_step, silent as silent_at, timely_step, is_late as order_is_late, is_ready as stage_is_ready, statement_step, act_step, outcome_text as text_of_outcome, is_refused_outcome, empty, declared, derived, running};
 ghost use Rattle.std.specs.Str.{bytes_eq};
 ghost use Rattle.strip.specs.Derived.{derived_over};
 ghost use Rattle.strip.specs.Stages.{stage_of, IsSteady, IsStep, IsIdle, IsOver, HasThreeNames, DeclaresWell};
@@ -17,6 +17,7 @@ use crate::derived::{TwoTables, derived_table, keep};
 use crate::forms::order;
 use crate::jobs::{finish, start};
 use crate::orders::{Derivation, Order};
+use crate::refusals::{fault_text, not_ready_text, oversize_text, unended_text};
 use std::alloc::{AllocError, Global};
 use std::marker::Model;
 use std::mem;
@@ -332,19 +333,49 @@ fn is_blank(bytes: &[u8]) -> bool
         .all(|byte| matches!(*byte, b' ' | b'\t' | b'\r' | b'\n'))
 }
 
-fn statement(alloc: Global, script: Script, bytes: &[u8]) -> Result<Answer, AllocError>
-    requires { IsSteady script }
-    ensures { IfOk result (IsStep (statement_step (stage_of script) bytes.now)) }
+/// A refusal with this text, which changes nothing.
+fn refuse_with(stage: Stage, text: Vec<u8>) -> Answer
+    requires { IsSteady stage }
+    ensures { IsStep (refusing (stage_of stage) text.items) result }
 {
-    if is_blank(bytes) {
-        return Ok(Answer {
-            text: Vec::new(alloc),
-            refused: false,
-            script,
-        });
+    Answer {
+        text,
+        refused: true,
+        script: Script::at(stage),
     }
-    let order = order(alloc, bytes)?;
-    match script.stage() {
+}
+
+/// Whether the setup is closed.
+fn is_ready(stage: &Stage) -> bool
+    ensures { result ≡ stage_is_ready (stage_of stage.now) }
+{
+    match stage {
+        Stage::Running(_) => true,
+        _ => false,
+    }
+}
+
+/// Whether the statement belongs behind the setup.
+fn is_late(order: &Order) -> bool
+    ensures { result ≡ order_is_late order.now }
+{
+    match order {
+        Order::Put { .. }
+        | Order::Show { .. }
+        | Order::Start
+        | Order::Finish { .. }
+        | Order::Late => true,
+        _ => false,
+    }
+}
+
+/// What a statement is answered in its place.
+fn placed(alloc: Global, stage: Stage, order: Order) -> Result<Answer, AllocError>
+    requires steady { IsSteady stage }
+    requires well { DeclaresWell order }
+    ensures { IfOk result (IsStep (order_step (stage_of stage) order)) }
+{
+    match stage {
         Stage::Empty(limits) => empty_order(alloc, limits, order),
         Stage::Declared { limits, def } => declared_order(alloc, limits, def, order),
         Stage::Derived { limits, tables } => {
@@ -355,6 +386,57 @@ fn statement(alloc: Global, script: Script, bytes: &[u8]) -> Result<Answer, Allo
     }
 }
 
+/// What a statement is answered, if it doesn't come too early.
+fn timely(alloc: Global, stage: Stage, order: Order) -> Result<Answer, AllocError>
+    requires steady { IsSteady stage }
+    requires well { DeclaresWell order }
+    ensures { IfOk result (IsStep (timely_step (stage_of stage) order)) }
+{
+    if is_late(&order) && !is_ready(&stage) {
+        let text = not_ready_text(alloc)?;
+        return Ok(refuse_with(stage, text));
+    }
+    placed(alloc, stage, order)
+}
+
+/// What a statement is answered, or bytes that are none.
+fn read(alloc: Global, stage: Stage, order: Order) -> Result<Answer, AllocError>
+    requires steady { IsSteady stage }
+    requires well { DeclaresWell order }
+    ensures { IfOk result (IsStep (read_step (stage_of stage) order)) }
+{
+    match order {
+        Order::Fault(fault) => {
+            let text = fault_text(alloc, fault)?;
+            Ok(refuse_with(stage, text))
+        }
+        order => timely(alloc, stage, order),
+    }
+}
+
+/// No reply, which changes nothing.
+fn silent(alloc: Global, script: Script) -> Answer
+    requires { IsSteady script }
+    ensures { IsStep (silent_at (stage_of script)) result }
+{
+    Answer {
+        text: Vec::new(alloc),
+        refused: false,
+        script,
+    }
+}
+
+fn statement(alloc: Global, script: Script, bytes: &[u8]) -> Result<Answer, AllocError>
+    requires { IsSteady script }
+    ensures { IfOk result (IsStep (statement_step (stage_of script) bytes.now)) }
+{
+    if is_blank(bytes) {
+        return Ok(silent(alloc, script));
+    }
+    let order = order(alloc, bytes)?;
+    read(alloc, script.stage(), order)
+}
+
 /// What a piece is answered.
 #[tactic(auto, unfolding(crate::specs::Script::step))]
 fn take_piece(alloc: Global, script: Script, piece: Piece) -> Result<Answer, AllocError>
@@ -363,6 +445,14 @@ fn take_piece(alloc: Global, script: Script, piece: Piece) -> Result<Answer, All
 {
     match piece {
         Piece::Statement(bytes) => statement(alloc, script, bytes.as_slice()),
-        _ => refuse(alloc, script.stage()),
+        Piece::TooLong { length, .. } => {
+            let text = oversize_text(alloc, length)?;
+            Ok(refuse_with(script.stage(), text))
+        }
+        Piece::Rest(_) => {
+            let text = unended_text(alloc)?;
+            Ok(refuse_with(script.stage(), text))
+        }
+        Piece::End => Ok(silent(alloc, script)),
     }
 }

@@ -116,14 +116,14 @@ const SCRIPTS: [(&[u8], &[u8], u8); 8] = [
     ),
     (
         b"table t (a int, key a); ready; put t (1); put t (1); drop t; show t;",
-        b"ok\nok\ncount 1\ncount 1\nrefused NotBuilt\nrows 1\n(1)\n",
+        b"ok\nok\ncount 1\ncount 1\nrefused Parse 1 Unexpected\nrows 1\n(1)\n",
         1,
     ),
     (b"", b"", 0),
     (b" ;\n;\t", b"", 0),
     (
         b"table t (a int, key a); ready; show t",
-        b"ok\nok\nrefused NotBuilt\n",
+        b"ok\nok\nrefused Unended\n",
         1,
     ),
     (
@@ -132,8 +132,8 @@ const SCRIPTS: [(&[u8], &[u8], u8); 8] = [
         0,
     ),
     (
-        b"show t; ready; put t (1);",
-        b"refused NotBuilt\nrefused NotBuilt\nrefused NotBuilt\n",
+        b"show pending; ready; selec x; put t (1); select a from t;",
+        b"refused NotReady\nrefused NotBuilt\nrefused Parse 1 Unexpected\nrefused NotReady\nrefused NotReady\n",
         1,
     ),
     (

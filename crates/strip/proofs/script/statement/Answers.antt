@@ -4,8 +4,5 @@ use Rattle.strip.proofs.BaseLaws.{base_in}
 use Rattle.strip.proofs.script.statement.Goals as goal
 
 -- what is declared is a base table, or has three names
-pub empty_order-requires-clause-well : goal.empty_order-requires-clause-well
-empty_order-requires-clause-well c = subst DeclaresWell (sym c.in_ok-order.ensures) (base_in c.args.bytes.now)
-
-pub declared_order-requires-clause-well : goal.declared_order-requires-clause-well
-declared_order-requires-clause-well c = subst DeclaresWell (sym c.in_ok-order.ensures) (base_in c.args.bytes.now)
+pub read-requires-clause-well : goal.read-requires-clause-well
+read-requires-clause-well c = subst DeclaresWell (sym c.in_ok-order.ensures) (base_in c.args.bytes.now)
