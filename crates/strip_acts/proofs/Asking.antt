@@ -1,5 +1,5 @@
 -- A query that suits is written, accepted and read again.
-use Rattle.std.proofs.Common.{◌≡◌, ℕ, ◌+◌, ◌≤◌, true, false, not, ◌&&◌, List, [], ◌∷◌, ◌++◌, length, map, Option, Some, None, unwrap_or, option_map, filter_map, flat_map, nat_le, nat_lt, refl, sym, ap, ap₂, ◌∙◌, subst, arith}
+use Rattle.std.proofs.Common.{◌≡◌, ℕ, ◌+◌, ◌≤◌, true, false, List, [], ◌∷◌, ◌++◌, length, map, Option, Some, None, unwrap_or, option_map, filter_map, flat_map, nat_le, nat_lt, refl, sym, ap, ap₂, ◌∙◌, subst, arith}
 use Rattle.std.specs.List.{AllByRecursion, enumerate_from, list_all}
 use Rattle.std.proofs.lemmas.Bool.Decides.{nat_tests}
 use Rattle.strip_value.specs.declared.acts.Act.TheVariants as act
@@ -24,7 +24,7 @@ use Rattle.strip_meaning.specs.Effect.{no_table}
 use Rattle.strip_setup.specs.declared.errors.LimitKind.{LimitKind}
 use Rattle.strip_setup.specs.declared.errors.LimitKind.TheVariants as limit_kind
 use Rattle.strip_setup.specs.declared.scope.Entry.{Entry}
-use Rattle.strip_setup.specs.Catalog.{columns_of, first, is_empty, repeated}
+use Rattle.strip_setup.specs.Catalog.{columns_of, first, repeated}
 use Rattle.strip_setup.specs.Parts.{filter_wholes, item_wholes, query_wholes, total_wholes}
 use Rattle.strip_setup.specs.Queries.{alias_of, entry_of, filter_of, input_of, item_name, item_names, kinds_of, place_of, query_of, Scope, what_of}
 use Rattle.strip_setup.specs.Queries.{entries_of as read_entries}
@@ -33,13 +33,14 @@ use Rattle.strip_names.specs.Grouped.{has_misplaced}
 use Rattle.strip_names.specs.Limits.{limit_if, more_than, most_columns, most_entries}
 use Rattle.strip_names.specs.Unknown.{unknown_column, unknown_in_all, unknown_origin}
 use Rattle.strip_acts.specs.Laws.{AreApart, AreNamed, column_names, IsAccepted, IsReadAgain}
-use Rattle.strip_acts.specs.Suiting.{all_once, has_column, kinds_in, most_inputs, suits, suits_filter, suits_group, suits_input, suits_item, suits_query}
+use Rattle.strip_acts.specs.Suiting.{has_column, kinds_in, most_inputs, suits, suits_filter, suits_group, suits_input, suits_item, suits_query}
 use Rattle.strip_acts.specs.Trees.{alias_at, col_tree, entry_trees, input_columns, item_tree, named_entries, origin_of, query_tree, total_of, tree_of}
 use Rattle.strip_acts.specs.Writable.{is_written}
 use Rattle.strip_acts.proofs.Aliases.{aliases_once, AreAllApart, entries_from, kinds_named, named_back}
 use Rattle.strip_acts.proofs.Checking.{IsCheckedWhole}
-use Rattle.strip_acts.proofs.Lists.{all-append, each_passes, empty_both, flat_empty, long_map, long_numbered}
+use Rattle.strip_acts.proofs.Lists.{all-append, each_passes, empty_both, flat_empty, long_map, long_numbered, none_empty}
 use Rattle.strip_acts.proofs.Naming.{are_both, at_most, below, both_true, def_named, id_named, is_not, named_known}
+use Rattle.strip_acts.proofs.QueryParts.{SuitsOver, in_parts}
 use Rattle.strip_acts.proofs.Reading.{filter_again, filter_checked, IsReadBack, sum_again, sum_whole, value_again, value_checked, value_whole}
 use Rattle.strip_acts.proofs.Setting.{wholes_known, wholes_matched, wholes_narrow}
 
@@ -115,10 +116,6 @@ module _ (read written : List Entry) (back : IsReadBack read written) where
 names_again : (written : List Entry) (n : ℕ) (items : List Item) → map item_name (enumerate_from n (map (item_tree written) items)) ≡ map (λ (item : Item). item.name) items
 names_again written n [] = refl
 names_again written n (item ∷ items) = ap (λ names. item.name ∷ names) (names_again written (n + 1) items)
-
-none_empty : {A : Type 0} (xs : List A) → is_empty xs ≡ true → xs ≡ []
-none_empty [] e = refl
-none_empty (x ∷ xs) e = cc
 
 -- ---- entries
 
@@ -209,55 +206,22 @@ module _ (tables : List TableDef) (named : AreNamed tables) where
     abbrev read : List Entry
     read = read_entries scope tree
 
-    -- what suits, part by part
-    record Suiting : Type 0 where
-      pub inputs : AllByRecursion IsTable query.entries
-      pub few : nat_le (length query.entries) (most_inputs query.group) ≡ true
-      pub narrow : nat_le (length query.items) most_columns ≡ true
-      pub once : all_once (map (λ (item : Item). item.name) query.items) ≡ true
-      pub items : list_all (λ (item : Item). suits_item (kinds_in columns) item.what) query.items ≡ true
-      pub only : suits_filter (kinds_in columns) query.filter ≡ true
-      pub group : suits_group (kinds_in columns) query.group ≡ true
-      pub placed : not (has_misplaced query) ≡ true
+    suiting : SuitsOver (suits_input tables) (input_columns tables) query
+    suiting = in_parts (suits_input tables) (input_columns tables) query fits
 
-    suiting : Suiting
-    suiting =
-        let b7 = not (has_misplaced query) in
-        let b6 = suits_group (kinds_in columns) query.group in
-        let b5 = suits_filter (kinds_in columns) query.filter in
-        let b4 = list_all (λ (item : Item). suits_item (kinds_in columns) item.what) query.items in
-        let b3 = all_once (map (λ (item : Item). item.name) query.items) in
-        let b2 = nat_le (length query.items) most_columns in
-        let b1 = nat_le (length query.entries) (most_inputs query.group) in
-        let b0 = list_all (suits_input tables) query.entries in
-        let p0 = both_true b0 (b1 && (b2 && (b3 && (b4 && (b5 && (b6 && b7)))))) fits in
-        let p1 = both_true b1 (b2 && (b3 && (b4 && (b5 && (b6 && b7))))) p0.1 in
-        let p2 = both_true b2 (b3 && (b4 && (b5 && (b6 && b7)))) p1.1 in
-        let p3 = both_true b3 (b4 && (b5 && (b6 && b7))) p2.1 in
-        let p4 = both_true b4 (b5 && (b6 && b7)) p3.1 in
-        let p5 = both_true b5 (b6 && b7) p4.1 in
-        let p6 = both_true b6 b7 p5.1 in
-        record {
-          inputs = each_passes (suits_input tables) query.entries p0.0;
-          few = p1.0;
-          narrow = p2.0;
-          once = p3.0;
-          items = p4.0;
-          only = p5.0;
-          group = p6.0;
-          placed = p6.1;
-        }
+    are_tables : AllByRecursion IsTable query.entries
+    are_tables = each_passes (suits_input tables) query.entries suiting.inputs
 
     few : length query.entries ≤ 3
     few = few_inputs query.group query.entries suiting.few
 
     same : read ≡ written
-    same = entries_again 0 query.entries suiting.inputs
+    same = entries_again 0 query.entries are_tables
 
     back : IsReadBack read written
     back =
         let short : length columns ≤ 3 = subst (λ n. n ≤ 3) (sym (long_map (input_columns tables) query.entries)) few in
-        subst (λ entries. IsReadBack entries written) (sym same) (named_back columns short (all_apart query.entries suiting.inputs))
+        subst (λ entries. IsReadBack entries written) (sym same) (named_back columns short (all_apart query.entries are_tables))
 
     kinds_are : kinds_in columns ≡ kinds_of read
     kinds_are = sym (kinds_named columns) ∙ sym (ap kinds_of same)
@@ -268,7 +232,7 @@ module _ (tables : List TableDef) (named : AreNamed tables) where
         (sym (ap (λ ks. list_all (λ (item : Item). suits_item ks item.what) query.items) kinds_are) ∙ suiting.items)
 
     only_fits : suits_filter (kinds_of read) query.filter ≡ true
-    only_fits = sym (ap (λ ks. suits_filter ks query.filter) kinds_are) ∙ suiting.only
+    only_fits = sym (ap (λ ks. suits_filter ks query.filter) kinds_are) ∙ suiting.filter
 
     group_fits : suits_group (kinds_of read) query.group ≡ true
     group_fits = sym (ap (λ ks. suits_group ks query.group) kinds_are) ∙ suiting.group
@@ -281,7 +245,7 @@ module _ (tables : List TableDef) (named : AreNamed tables) where
         let items = map (item_of read written back) (enumerate_from 1 tree.items) in
         let entries = map (λ (entry : EntryTree). input_of tables entry.origin) tree.entries in
         let places = option_map (map (λ (column : ColTree). place_of read column.of column.name)) tree.group in
-        ap₂ (λ a b. query_with a b (filter_of read tree.filter) places) (items_again read written back 1 query.items items_fit) (inputs_again 0 query.entries suiting.inputs)
+        ap₂ (λ a b. query_with a b (filter_of read tree.filter) places) (items_again read written back 1 query.items items_fit) (inputs_again 0 query.entries are_tables)
         ∙ ap₂ (λ a b. query_with query.items query.entries a b) (filter_again read written back query.filter only_fits) (group_again read written back query.group group_fits)
 
     checked : AllByRecursion (IsCheckedWhole read) (query_wholes tree)
@@ -298,7 +262,7 @@ module _ (tables : List TableDef) (named : AreNamed tables) where
           let only = unknown_in_all read (filter_wholes tree.filter) in
           let group = flat_map (unknown_column read) (unwrap_or tree.group []) in
           empty_both items (origins ++ (only ++ group)) (wholes_known read (item_wholes tree.items) (items_checked read written back query.items items_fit))
-          (empty_both origins (only ++ group) (flat_empty (λ (entry : EntryTree). unknown_origin scope entry.origin) tree.entries (origins_known 0 query.entries suiting.inputs))
+          (empty_both origins (only ++ group) (flat_empty (λ (entry : EntryTree). unknown_origin scope entry.origin) tree.entries (origins_known 0 query.entries are_tables))
           (empty_both only group (wholes_known read (filter_wholes tree.filter) (filter_checked read written back query.filter only_fits)) (group_known read written back query.group group_fits)));
       within = empty_both (more_than most_columns limit_kind.Columns (length tree.items)) (more_than (most_entries tree.group) limit_kind.Entries (length tree.entries))
           (none_passed most_columns (length tree.items) limit_kind.Columns (ap (λ n. nat_le n most_columns) (long_map (item_tree written) query.items) ∙ suiting.narrow))

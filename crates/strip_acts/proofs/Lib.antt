@@ -13,6 +13,8 @@ pub mod Aliases
 pub mod Asking
 pub mod ItemNames
 pub mod SuitingWritten
+pub mod QueryParts
+pub mod Asked
 pub mod Answering
 pub mod WrittenSuit
 pub mod Tests

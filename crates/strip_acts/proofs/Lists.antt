@@ -5,7 +5,7 @@ use Rattle.std.proofs.lemmas.Bool.Decides.{nat_tests}
 use Rattle.std.proofs.lemmas.List.{length-map}
 use Rattle.std.proofs.lemmas.List.FromFn.{length-enumerate_from}
 use Rattle.std.proofs.lemmas.Slice.Eq.{bytes_eq-Decides}
-use Rattle.strip_setup.specs.Catalog.{has_name, repeated, stood_before}
+use Rattle.strip_setup.specs.Catalog.{has_name, is_empty, repeated, stood_before}
 use Rattle.strip_acts.specs.Laws.{AreApart}
 use Rattle.strip_acts.specs.Suiting.{all_differ}
 use Rattle.strip_acts.proofs.Naming.{are_both, both_true, eq_turned, is_not, neither, not_so}
@@ -69,6 +69,10 @@ pub long_numbered : {A B : Type 0} (f : ℕ × A → B) (n : ℕ) (xs : List A) 
 long_numbered f n xs = length-map (enumerate_from n xs) f ∙ length-enumerate_from n xs
 
 -- ---- empty lists
+
+pub none_empty : {A : Type 0} (xs : List A) → is_empty xs ≡ true → xs ≡ []
+none_empty [] e = refl
+none_empty (x ∷ xs) e = cc
 
 pub both_empty : {A : Type 0} (xs ys : List A) → xs ++ ys ≡ [] → (xs ≡ []) × (ys ≡ [])
 both_empty [] ys e = (refl, e)

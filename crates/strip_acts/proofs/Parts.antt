@@ -15,6 +15,7 @@ use Rattle.strip_names.specs.Grouped.{has_misplaced}
 use Rattle.strip_names.specs.Limits.{most_columns}
 use Rattle.strip_acts.specs.Suiting.{all_differ, all_once, has_column, is_there, kinds_in, most_inputs, suits_filter, suits_group, suits_input, suits_item, suits_query, suits_value}
 use Rattle.strip_acts.specs.Trees.{input_columns}
+use Rattle.strip_acts.proofs.QueryParts.{in_parts}
 use Rattle.strip_acts.proofs.Tests.{at_most, both, fails, middle_told, told}
 
 -- ---- queries
@@ -38,30 +39,15 @@ pub record SuitsQuery (tables : List TableDef) (query : Query) : Type 0 where
 
 pub query_suits : (tables : List TableDef) (query : Query) → suits_query tables query ≡ true → SuitsQuery tables query
 query_suits tables query suits =
-    let kinds = query_kinds tables query in
-    let placed : Bool = not (has_misplaced query) in
-    let group : Bool = suits_group kinds query.group in
-    let kept : Bool = suits_filter kinds query.filter in
-    let items : Bool = list_all (λ (item : Item). suits_item kinds item.what) query.items in
-    let once : Bool = all_once (map (λ (item : Item). item.name) query.items) in
-    let narrow : Bool = nat_le (length query.items) most_columns in
-    let few : Bool = nat_le (length query.entries) (most_inputs query.group) in
-    let of_inputs = both (list_all (suits_input tables) query.entries)
-    (few && (narrow && (once && (items && (kept && (group && placed)))))) suits in
-    let of_few = both few (narrow && (once && (items && (kept && (group && placed))))) of_inputs.1 in
-    let of_narrow = both narrow (once && (items && (kept && (group && placed)))) of_few.1 in
-    let of_once = both once (items && (kept && (group && placed))) of_narrow.1 in
-    let of_items = both items (kept && (group && placed)) of_once.1 in
-    let of_filter = both kept (group && placed) of_items.1 in
-    let of_group = both group placed of_filter.1 in
+    let parts = in_parts (suits_input tables) (input_columns tables) query suits in
     record {
-      inputs = of_inputs.0;
-      few = few_inputs query.group (length query.entries) of_few.0;
-      once = of_once.0;
-      items = of_items.0;
-      filter = of_filter.0;
-      group = of_group.0;
-      placed = of_group.1;
+      inputs = parts.inputs;
+      few = few_inputs query.group (length query.entries) parts.few;
+      once = parts.once;
+      items = parts.items;
+      filter = parts.filter;
+      group = parts.group;
+      placed = parts.placed;
     }
 
 -- what a query asks for suits columns of these kinds

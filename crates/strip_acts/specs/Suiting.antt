@@ -120,15 +120,20 @@ suits_group kinds group = option_map_or (list_all (λ (place : Place). has_colum
 abbrev pub all_once : List (List ℕ) → Bool
 all_once names = is_empty (repeated names)
 
-abbrev pub suits_query : List TableDef → Query → Bool
-suits_query tables query =
-    let kinds = kinds_in (map (input_columns tables) query.entries) in
-    list_all (suits_input tables) query.entries
+-- the query suits, where an entry may be such an input and has these columns
+abbrev pub suits_over : (Input → Bool) → (Input → List ColumnDef) → Query → Bool
+suits_over may_stand columns query =
+    let kinds = kinds_in (map columns query.entries) in
+    list_all may_stand query.entries
     && (nat_le (length query.entries) (most_inputs query.group)
     && (nat_le (length query.items) most_columns
     && (all_once (map (λ item. item.name) query.items)
     && (list_all (λ item. suits_item kinds item.what) query.items
     && (suits_filter kinds query.filter && (suits_group kinds query.group && not (has_misplaced query)))))))
+
+-- the query suits plain tables that are there
+abbrev pub suits_query : List TableDef → Query → Bool
+suits_query tables query = suits_over (suits_input tables) (input_columns tables) query
 
 -- ---- acts
 
