@@ -22,7 +22,7 @@ use Rattle.strip_setup.specs.Resolve.{group_numbers, outside_rules}
 use Rattle.strip_catalog.proofs.Causes.{at_most, both_empty, no_cause, no_limit}
 use Rattle.strip_catalog.proofs.Sizes.{length-enumerate}
 
-not_refused : (b : Bool) → refused_if (not b) NotGrouped ≡ None → b ≡ true
+pub not_refused : (b : Bool) → refused_if (not b) NotGrouped ≡ None → b ≡ true
 not_refused true e = refl
 not_refused false e = cc
 

@@ -22,6 +22,13 @@ pub mod SoundFound
 pub mod SoundFirst
 pub mod SoundDerived
 pub mod Sound
+pub mod DeriveSuits
+pub mod QueryStays
+pub mod SuitStays
+pub mod RuleAsks
+pub mod MoreColumns
+pub mod MadeAsks
+pub mod RuleSuits
 pub mod InTurn
 pub mod ActCauses
 pub mod Installed

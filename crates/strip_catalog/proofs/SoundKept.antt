@@ -54,13 +54,13 @@ pub all_itself : (tables : List TableDef) → AreKept tables tables
 all_itself [] = tt
 all_itself (table ∷ tables) = (kept_itself table, all_itself tables)
 
-kept_length : (ones others : List TableDef) → AreKept ones others → length others ≡ length ones
+pub kept_length : (ones others : List TableDef) → AreKept ones others → length others ≡ length ones
 kept_length [] [] kept = refl
 kept_length [] (other ∷ others) kept = absurd kept
 kept_length (one ∷ ones) [] kept = absurd kept
 kept_length (one ∷ ones) (other ∷ others) kept = ap suc (kept_length ones others kept.1)
 
-kept_at : (ones others : List TableDef) (id : ℕ) → AreKept ones others → IsKept (def_at ones id) (def_at others id)
+pub kept_at : (ones others : List TableDef) (id : ℕ) → AreKept ones others → IsKept (def_at ones id) (def_at others id)
 kept_at [] [] id kept = kept_itself no_table.def
 kept_at [] (other ∷ others) id kept = absurd kept
 kept_at (one ∷ ones) [] id kept = absurd kept

@@ -1,4 +1,5 @@
--- Tables that are declared by statements of a text have names of the grammar, and so have their columns.
+-- Tables that are declared by statements of a text have names of the grammar, and so have their columns. A derived one reads some
+-- table.
 use Rattle.std.proofs.Common.{◌≡◌, ℕ, zero, suc, ◌+◌, ◌<◌, ◌≤◌, Bool, true, false, ◌&&◌, nat_lt, inl, inr, List, [], ◌∷◌, ◌++◌, length, map, codes, decimal, Option, Some, None, unwrap_or, refl, sym, ap, ◌∙◌, subst, arith}
 use Rattle.std.specs.Fmt.{digits}
 use Rattle.std.specs.List.{AllByRecursion, enumerate_from}
@@ -23,7 +24,7 @@ use Rattle.strip_ast.specs.declared.token_types.Token.TheVariants as token
 use Rattle.strip_ast.specs.Grammar as grammar
 use Rattle.strip_ast.specs.Grammar.{Behind, Each, Grammar, Matches, either, many, takes}
 use Rattle.strip_ast.specs.Marks.{keyword_of}
-use Rattle.strip_ast.specs.Syntax.{Within, a_name, atom, called, chain, col_of, column, columns, compare, compared, conj, derive, dotted, expression, factor, function, item, joined, joins, listed, maintain, optional, product, query, rule, statement, stream, sum, table, test, total, totalled, whole, ◌▸◌, ◌◂◌}
+use Rattle.strip_ast.specs.Syntax.{Within, a_name, atom, called, chain, col_of, column, columns, compare, compared, conj, derive, dotted, entry, expression, factor, function, item, joined, joins, listed, maintain, optional, product, query, rest, rule, statement, stream, sum, table, test, total, totalled, whole, ◌▸◌, ◌◂◌}
 use Rattle.strip_ast.specs.Tokens.{is_grammar_name}
 use Rattle.strip_ast.proofs.SoundTokens.{SoundToken, SoundTokens, sound_placed, tokens_sound}
 use Rattle.strip_setup.specs.declared.scope.Entry.{Entry}
@@ -68,6 +69,7 @@ pub record NamesTable (name : List ℕ) (columns : List ColumnDef) : Type 0 wher
 pub record NamesDerived (name : List ℕ) (query : QueryTree) : Type 0 where
   pub own : IsName name
   pub each : AreNamedItems query.items
+  pub reads : 1 ≤ length query.entries
 
 -- ---- tokens that bytes are cut into
 
@@ -243,20 +245,33 @@ module _ (I : List Placed → Expr → Type 0) where
         (keeps_optional (m.As ▸ a_name) (keeps_behind m.As a_name IsName keeps_name) w c.1 (right_sound u v w split sound) named, keeps_totalled v c.0 (left_sound u v w split sound) is)
     keeps_total u i sound (inr is) = keeps_item u i sound is
 
-    keeps_query : Keeps query (λ q. AreNamedItems q.items)
-    unfolding query
-    keeps_query u q sound (c, (v, w, split, is, more), same) =
-        subst (λ (of : QueryTree). AreNamedItems of.items) (sym same)
-        (keeps_behind m.Select (listed total) AreNamedItems (keeps_listed total IsNamedItem keeps_total) v c.0 (left_sound u v w split sound) is)
+    -- a list of the grammar isn't empty
+    keeps_some : {A : Type 0} (g : Grammar A) → Keeps (listed g) (λ as_. 1 ≤ length as_)
+    keeps_some g u as_ sound (c, is, same) =
+        let long = ap length same in
+        omega (arith, long)
+
+    abbrev IsNamedQuery : QueryTree → Type 0
+    IsNamedQuery q = AreNamedItems q.items × (1 ≤ length q.entries)
+
+    keeps_query : Keeps query IsNamedQuery
+    unfolding query rest
+    keeps_query u q sound (c, (v, w, split, is, (x, y, apart, (s, t, cut, read, only), group)), same) =
+        let those = left_sound w x y apart (right_sound u v w split sound) in
+        subst IsNamedQuery (sym same) (
+          keeps_behind m.Select (listed total) AreNamedItems (keeps_listed total IsNamedItem keeps_total) v c.0 (left_sound u v w split sound) is,
+          keeps_behind m.From (listed entry) (λ as_. 1 ≤ length as_) (keeps_some entry) s c.1.0.0 (left_sound x s t cut those) read,
+        )
 
     derive_named : (u : List Placed) (name : List ℕ) (q : QueryTree) → SoundTokens u → Matches I derive u (st.Derive name q) → NamesDerived name q
     unfolding derive
     derive_named u name q sound (p, (v, w, split, is, asked), same) =
         let own = keeps_behind m.Derive a_name IsName keeps_name v p.0 (left_sound u v w split sound) is in
-        let each = keeps_behind m.As query (λ (of : QueryTree). AreNamedItems of.items) keeps_query w p.1 (right_sound u v w split sound) asked in
+        let asks = keeps_behind m.As query IsNamedQuery keeps_query w p.1 (right_sound u v w split sound) asked in
         let same_name : name ≡ p.0 = cc (same) in
         let same_query : q ≡ p.1 = cc (same) in
-        record { own = subst IsName (sym same_name) own; each = subst (λ (of : QueryTree). AreNamedItems of.items) (sym same_query) each }
+        let query_asks = subst IsNamedQuery (sym same_query) asks in
+        record { own = subst IsName (sym same_name) own; each = query_asks.0; reads = query_asks.1 }
 
     written_derive : (u : List Placed) (name : List ℕ) (q : QueryTree) → SoundTokens u → Matches I statement u (st.Derive name q) → NamesDerived name q
     unfolding statement table stream function rule maintain called

@@ -1,6 +1,8 @@
 -- What every catalog is.
 use Rattle.std.specs.Prelude.{◌≡◌, ℕ, ◌+◌, ◌*◌, ◌<◌, ◌≤◌, ◌==◌, Bool, true, ◌⊎◌, List, Some, None, get_or, is_some, length, map, slice_get}
 use Rattle.std.specs.List.{AllByRecursion, list_any}
+use Rattle.strip_value.specs.declared.queries.Query.{Query}
+use Rattle.strip_value.specs.declared.rules.BoundQuery.{BoundQuery}
 use Rattle.strip_value.specs.declared.rules.Function.{Function}
 use Rattle.strip_value.specs.declared.rules.Rule.{Rule}
 use Rattle.strip_value.specs.declared.tables.By.{By}
@@ -8,9 +10,11 @@ use Rattle.strip_meaning.specs.Maintained.{Manner}
 use Rattle.strip_names.specs.Exists.{kept_number}
 use Rattle.strip_setup.specs.Small.{AreNarrow}
 use Rattle.strip_acts.specs.Laws.{AreApart, AreNamed}
+use Rattle.strip_acts.specs.Suiting.{suits_query}
 use Rattle.strip_setup.specs.Catalog.{Catalog, function_number, table_number}
 use Rattle.strip_setup.specs.Resolve.{no_function}
 use Rattle.strip_catalog.specs.Accepted.{IsDeclared}
+use Rattle.strip_catalog.specs.RuleQueries.{suits_in_rule}
 use Rattle.strip_meaning.specs.Contents.{def_at}
 use Rattle.strip_value.specs.declared.tables.TableDef.{TableDef}
 use Rattle.strip_setup.specs.Maintain.{made_function, made_rule, query_in}
@@ -68,6 +72,25 @@ IsTableOf tables def = IsBase def ⊎ IsDerivedTable tables def
 -- each table is a base table or a derived one
 abbrev pub TablesAreSound : Type 0
 TablesAreSound = (catalog : Catalog) → IsDeclared catalog → AllByRecursion (IsTableOf catalog.tables) catalog.tables
+
+-- what a derived table asks: its query has groups over one entry, and suits the tables: tables and columns are there, kinds go
+-- together, and bounds are kept
+pub record AsksRightly (tables : List TableDef) (query : Query) : Type 0 where
+  pub one : length query.entries ≡ 1
+  pub grouped : is_some query.group ≡ true
+  pub suits : suits_query tables query ≡ true
+
+abbrev pub QueriesSuit : Type 0
+QueriesSuit = (catalog : Catalog) → IsDeclared catalog → (id : ℕ) (query : Query) → (def_at catalog.tables id).query ≡ Some query → AsksRightly catalog.tables query
+
+-- what a rule asks suits the tables: the rule's table is there, and each of its queries suits
+pub record AsksInRange (tables : List TableDef) (rule : Rule) : Type 0 where
+  pub there : rule.table < length tables
+  pub conditions : AllByRecursion (λ (one : BoundQuery). suits_in_rule tables rule.table one.query ≡ true) rule.conditions
+  pub evaluate : AllByRecursion (λ (one : BoundQuery). suits_in_rule tables rule.table one.query ≡ true) rule.evaluate
+
+abbrev pub RulesSuit : Type 0
+RulesSuit = (catalog : Catalog) → IsDeclared catalog → (number : ℕ) (rule : Rule) → slice_get catalog.rules number ≡ Some rule → AsksInRange catalog.tables rule
 
 -- ---- tables that are declared to be kept
 

@@ -4,6 +4,7 @@ pub mod Accepted
 pub mod Made
 pub mod First
 pub mod Sums
+pub mod RuleQueries
 pub mod Laws
 pub mod Calls
 pub mod Suiting
@@ -11,4 +12,5 @@ pub mod Writing
 pub mod Examples
 pub mod TableExamples
 pub mod RuleExamples
+pub mod RuleQueryExamples
 pub mod MaintainExamples

@@ -1,5 +1,5 @@
 //! Laws of catalogs: the contracts of functions that do nothing. The statements stand in `specs/Laws.antt`.
-ghost use Rattle.strip_catalog.specs.Laws.{CatalogsAreSmall, DeclaredTablesAreKept, NamesAreTheirOwn, NamesStandForNumbers, TablesAreNamed, TablesAreSound};
+ghost use Rattle.strip_catalog.specs.Laws.{CatalogsAreSmall, DeclaredTablesAreKept, NamesAreTheirOwn, NamesStandForNumbers, QueriesSuit, RulesSuit, TablesAreNamed, TablesAreSound};
 
 /// There are at most 64 tables, streams and functions, and 128 rules; a table has at most 16 columns.
 pub fn catalogs_are_small()
@@ -25,6 +25,18 @@ pub fn names_stand_for_numbers()
 /// query gives.
 pub fn tables_are_sound()
     ensures { TablesAreSound }
+{}
+
+/// The query of each derived table has groups over one entry, and suits the tables: its tables and columns are there, its kinds
+/// go together, and no number that it computes is too wide.
+pub fn queries_suit()
+    ensures { QueriesSuit }
+{}
+
+/// What each rule asks suits the tables, its conditions and what it evaluates: its table is there, and so are the tables and
+/// columns of its queries, kinds go together, and no number that a query computes is too wide.
+pub fn rules_suit()
+    ensures { RulesSuit }
 {}
 
 /// A table that is declared to be kept has the function and the rule that are made of it. No other function keeps it, and no
