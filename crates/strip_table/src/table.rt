@@ -51,6 +51,16 @@ impl Table {
         })
     }
 
+    /// A table with the same definition and rows; later changes of either don't show in the other. It takes as much memory as
+    /// the table has.
+    pub fn share(&self, alloc: Global) -> Result<Table, AllocError>
+        ensures { IfOk result (λ table. table ≡ self.now) }
+    {
+        let def = self.def.copy(alloc)?;
+        let rows = copied(alloc, self.rows.as_slice())?;
+        Ok(Table { def, rows })
+    }
+
     pub fn def(&self) -> &TableDef
         ensures { result.now ≡ self.now.def }
     {
@@ -110,6 +120,16 @@ impl Table {
     {
         take_row(self.def.key.as_slice(), &mut self.rows, key)
     }
+}
+
+fn copied(alloc: Global, rows: &[Row]) -> Result<Vec<Row>, AllocError>
+    ensures { IfOk result (λ made. made.items ≡ rows.now) }
+{
+    let mut made = Vec::with_capacity(alloc, rows.len())?;
+    for row in rows {
+        made.push(row.copy(alloc)?)?;
+    }
+    Ok(made)
 }
 
 fn row_of<'a>(columns: &[u32], rows: &'a [Row], key: &[Value]) -> Option<&'a Row>

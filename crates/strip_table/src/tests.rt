@@ -103,6 +103,7 @@ fn rows_are_put_and_taken_by_key(rt: HostRuntime) -> Result<(), Fail> {
         b"(4, 5)".as_slice()
     );
     assert!(rt; table.get(&[Value::Int(4)]).is_none());
+    let shared = table.share(alloc)?;
     let back = pair(&rt, alloc, &table, 6, 3)?;
     table.put_back(back);
     let other = pair(&rt, alloc, &table, 6, 8)?;
@@ -119,5 +120,10 @@ fn rows_are_put_and_taken_by_key(rt: HostRuntime) -> Result<(), Fail> {
         b"(6, 3)".as_slice()
     );
     assert_eq!(rt; table.len(), 0);
+    assert_eq!(rt; shared.def().limit, Some(2));
+    assert_eq!(rt;
+        text(alloc, &shared)?.as_slice(),
+        b"(2, 3)(4, 5)".as_slice()
+    );
     Ok(())
 }
