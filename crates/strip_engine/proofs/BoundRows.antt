@@ -56,15 +56,14 @@ use Rattle.strip_engine.specs.declared.deltas.Side.TheVariants as side
 use Rattle.strip_engine.specs.declared.keepers.Keeper.{Keeper}
 use Rattle.strip_engine.specs.declared.queue.Waiting.{Waiting}
 use Rattle.strip_meaning.specs.First.{Form, IsBase, IsFirst, NamesDiffer, first_def, no_column}
-use Rattle.strip_engine.specs.Keepers.{keeper_at, kept_def, keepers_from, no_keeper}
-use Rattle.strip_engine.specs.Rules.{rules_from, functions_from}
-use Rattle.strip_engine.specs.Setup.{IsTableOf, AreTables}
-use Rattle.strip_engine.specs.State.{fixed_by}
+use Rattle.strip_engine.specs.Keepers.{all_keepers, keeper_at, kept_def, no_keeper}
+use Rattle.strip_engine.specs.Built.{IsBuilt, IsTableOf}
+use Rattle.strip_engine.specs.Steps.{AreTables}
 use Rattle.strip_engine.specs.Changes.{ShiftFits, ChangeFits, moved_row, coming_row, going_row, delta_row, with_delta, deltas, bound_rows, bound_by, fired_by}
 use Rattle.strip_engine.specs.Queue.{IsWaiting, as_firing, plain_id}
 use Rattle.strip_engine.specs.Jobs.{CanFold, content_of}
 use Rattle.strip_engine.proofs.Fits.{neither, fits_base}
-use Rattle.strip_engine.proofs.KeeperRules.{IsKept, all_kept, fired_is, function_is, kept_first, rule_function, rules_count}
+use Rattle.strip_engine.proofs.KeeperRules.{KeepsFirst, all_kept, fired_is, function_is, kept_first, rule_function, rules_count}
 
 -- what each image is, the image of each element is
 map_all : {A B : Type 0} (P : B → Type 0) (f : A → B) (xs : List A) → AllByRecursion P (map f xs) → AllByRecursion (λ x. P (f x)) xs
@@ -141,41 +140,41 @@ added_own defs def first (r ∷ rows) all =
     ap (λ (rs : List BoundRow). map own (plain_rows rs)) (filter_keeps (λ (r : BoundRow). r.table == 0) r rows (eq-eqb r.table 0 all.0.table))
     ∙ ap₂ (λ x xs. x ∷ xs) (as_own defs def r.row first all.0.fits) (added_own defs def first rows all.1)
 
-pub added_are : (defs : List TableDef) → AreTables defs → (n : ℕ) → n < length (rules_from 0 defs) → (rows : List BoundRow) → AllByRecursion (AddsTo (kept_def defs n)) rows
-    → added_rows (kept_def defs n) (get_or (functions_from 0 defs) n no_function) 0 rows ≡ plain_rows rows
-added_are defs are n lt rows all =
-    ap (λ function. added_rows (kept_def defs n) function 0 rows) (function_is defs n lt)
-    ∙ added_own defs (kept_def defs n) (kept_first defs are n lt) rows all
+pub added_are : (f : Fixed) → IsBuilt f → (n : ℕ) → n < length f.rules → (rows : List BoundRow) → AllByRecursion (AddsTo (kept_def f n)) rows
+    → added_rows (kept_def f n) (get_or f.functions n no_function) 0 rows ≡ plain_rows rows
+added_are f built n lt rows all =
+    ap (λ function. added_rows (kept_def f n) function 0 rows) (function_is f built n lt)
+    ∙ added_own f.defs (kept_def f n) (kept_first f built n lt) rows all
 
 -- what an action is to do: the sums of its rows are to be added to the table
-pub contents_of_rows : (defs : List TableDef) → AreTables defs → (n : ℕ) → n < length (rules_from 0 defs) → (rows : List BoundRow) → AllByRecursion (AddsTo (kept_def defs n)) rows
-    → contents defs (get_or (functions_from 0 defs) n no_function) rows ≡ Totals (folded (kept_def defs n) (plain_rows rows)) ∷ []
-contents_of_rows defs are n lt rows all =
-    ap (λ function. contents defs function rows) (function_is defs n lt)
-    ∙ ap (λ more. Totals (folded (kept_def defs n) more) ∷ []) (added_own defs (kept_def defs n) (kept_first defs are n lt) rows all)
+pub contents_of_rows : (f : Fixed) → IsBuilt f → (n : ℕ) → n < length f.rules → (rows : List BoundRow) → AllByRecursion (AddsTo (kept_def f n)) rows
+    → contents f.defs (get_or f.functions n no_function) rows ≡ Totals (folded (kept_def f n) (plain_rows rows)) ∷ []
+contents_of_rows f built n lt rows all =
+    ap (λ function. contents f.defs function rows) (function_is f built n lt)
+    ∙ ap (λ more. Totals (folded (kept_def f n) more) ∷ []) (added_own f.defs (kept_def f n) (kept_first f built n lt) rows all)
 
 -- the rows of a firing
 firing_plain : (rules : List Rule) (place moment number : ℕ) (bounds : List Bound) → plain_rows (map (as_bound rules [] place moment number) bounds) ≡ map (λ (b : Bound). b.row) bounds
 firing_plain rules place moment number [] = refl
 firing_plain rules place moment number (b ∷ bounds) = ap (λ rows. b.row ∷ rows) (firing_plain rules place moment number bounds)
 
-pub contents_are : (defs : List TableDef) → AreTables defs → (n : ℕ) → n < length (rules_from 0 defs) → (fg : Firing) → AllByRecursion (AddsTo (kept_def defs n)) (firing_rows (rules_from 0 defs) fg)
-    → contents defs (get_or (functions_from 0 defs) n no_function) (firing_rows (rules_from 0 defs) fg) ≡ content_of (kept_def defs n) fg.fired.rows
-contents_are defs are n lt fg all =
-    contents_of_rows defs are n lt (firing_rows (rules_from 0 defs) fg) all
-    ∙ ap (λ rows. Totals (folded (kept_def defs n) rows) ∷ []) (firing_plain (rules_from 0 defs) fg.place fg.moment fg.fired.number fg.fired.rows)
+pub contents_are : (f : Fixed) → IsBuilt f → (n : ℕ) → n < length f.rules → (fg : Firing) → AllByRecursion (AddsTo (kept_def f n)) (firing_rows f.rules fg)
+    → contents f.defs (get_or f.functions n no_function) (firing_rows f.rules fg) ≡ content_of (kept_def f n) fg.fired.rows
+contents_are f built n lt fg all =
+    contents_of_rows f built n lt (firing_rows f.rules fg) all
+    ∙ ap (λ rows. Totals (folded (kept_def f n) rows) ∷ []) (firing_plain f.rules fg.place fg.moment fg.fired.number fg.fired.rows)
 
 -- and the sums can be made
-pub can_fold : (defs : List TableDef) → AreTables defs → (n : ℕ) → n < length (rules_from 0 defs) → (fg : Firing) → AllByRecursion (AddsTo (kept_def defs n)) (firing_rows (rules_from 0 defs) fg) → length fg.fired.rows ≤ 2 ^ 60 → CanFold (kept_def defs n) fg.fired.rows
-can_fold defs are n lt fg all few =
-    let def = kept_def defs n in
-    let first = kept_first defs are n lt in
-    let each = map_all (AddsTo def) (as_bound (rules_from 0 defs) [] fg.place fg.moment fg.fired.number) fg.fired.rows all in
+pub can_fold : (f : Fixed) → IsBuilt f → (n : ℕ) → n < length f.rules → (fg : Firing) → AllByRecursion (AddsTo (kept_def f n)) (firing_rows f.rules fg) → length fg.fired.rows ≤ 2 ^ 60 → CanFold (kept_def f n) fg.fired.rows
+can_fold f built n lt fg all few =
+    let def = kept_def f n in
+    let first = kept_first f built n lt in
+    let each = map_all (AddsTo def) (as_bound f.rules [] fg.place fg.moment fg.fired.number) fg.fired.rows all in
     record {
-      derived = first_derived defs def first;
-      wide = first_wide defs def first;
-      fits = all_weaker (λ (b : Bound). AddsTo def (as_bound (rules_from 0 defs) [] fg.place fg.moment fg.fired.number b)) (λ (b : Bound). FitsColumns def.columns b.row) (λ b adds. adds.fits) fg.fired.rows each;
-      small = all_weaker (λ (b : Bound). AddsTo def (as_bound (rules_from 0 defs) [] fg.place fg.moment fg.fired.number b)) (λ (b : Bound). AllByRecursion (IsUnder (2 ^ 63)) (totals_of def b.row)) (λ b adds. adds.small) fg.fired.rows each;
+      derived = first_derived f.defs def first;
+      wide = first_wide f.defs def first;
+      fits = all_weaker (λ (b : Bound). AddsTo def (as_bound f.rules [] fg.place fg.moment fg.fired.number b)) (λ (b : Bound). FitsColumns def.columns b.row) (λ b adds. adds.fits) fg.fired.rows each;
+      small = all_weaker (λ (b : Bound). AddsTo def (as_bound f.rules [] fg.place fg.moment fg.fired.number b)) (λ (b : Bound). AllByRecursion (IsUnder (2 ^ 63)) (totals_of def b.row)) (λ b adds. adds.small) fg.fired.rows each;
       few = omega arith;
     }
 
@@ -198,9 +197,10 @@ all_set P (y ∷ xs) (suc i) x all here = (all.0, all_set P xs i x all.1 here)
 -- a table without a query is a base table
 stored_base : (defs : List TableDef) (def : TableDef) → IsTableOf defs def → is_some def.query ≡ false → IsBase def
 stored_base defs def (inl base) none = base
-stored_base defs def (inr first) none =
+stored_base defs def (inr (inl first)) none =
     let has : is_some def.query ≡ true = ap (λ (d : TableDef). is_some d.query) first.is in
     cc
+stored_base defs def (inr (inr unkept)) none = let has = unkept.derived in cc
 
 not_derived : (b : Bool) (id : ℕ) → cond b (Some (Derived id)) None ≡ None → b ≡ false
 not_derived true id e = cc
@@ -221,7 +221,7 @@ module _ (defs : List TableDef) (are : AreTables defs) where
   put_fits ts id row t lt none fits =
       let table = table_at ts id in
       let def_is : table.def ≡ def_at defs id = sym (get_or-map (λ (u : Keyed). u.def) ts id no_table) ∙ ap (λ ds. def_at ds id) t.same in
-      let base = stored_base defs table.def (subst (IsTableOf defs) (sym def_is) (all_at (IsTableOf defs) defs id no_table.def are.each lt)) none in
+      let base = stored_base defs table.def (subst (IsTableOf defs) (sym def_is) (all_at (IsTableOf defs) defs id no_table.def are lt)) none in
       let row_fits = fits_base table.def row base fits in
       let all = all_or RowsFit ts id no_table t.fit tt in
       let Fit : List Value → Type 0 = FitsColumns table.def.columns in
@@ -302,20 +302,20 @@ empty_fit (def ∷ defs) =
     let rest = empty_fit defs in
     record { same = ap (λ ds. def ∷ ds) rest.same; fit = (tt, rest.fit) }
 
-pub base_fits : (f : Fixed) (past : List Entry) → AreTables f.defs → Legal f past → TablesFit f.defs (base (beginning f) past)
-base_fits f [] are legal = empty_fit f.defs
-base_fits f (Begin c s w r ∷ past) are legal = base_fits f past are legal.1
-base_fits f (Did c s a reply ∷ past) are legal = base_fits f past are legal.1
-base_fits f (Commit c s m ∷ past) are legal =
-    (run_fits f.defs are (holds past s) (base (beginning f) past) (acts past s) (base_fits f past are legal.1) (acts_name f past s legal.1)).tables
-base_fits f (Undo c s ∷ past) are legal = base_fits f past are legal.1
-base_fits f (Start c n m a d r ∷ past) are legal = base_fits f past are legal.1
-base_fits f (Finish c n ∷ past) are legal = base_fits f past are legal.1
+pub base_fits : (f : Fixed) (past : List Entry) → IsBuilt f → Legal f past → TablesFit f.defs (base (beginning f) past)
+base_fits f [] built legal = empty_fit f.defs
+base_fits f (Begin c s w r ∷ past) built legal = base_fits f past built legal.1
+base_fits f (Did c s a reply ∷ past) built legal = base_fits f past built legal.1
+base_fits f (Commit c s m ∷ past) built legal =
+    (run_fits f.defs built.each (holds past s) (base (beginning f) past) (acts past s) (base_fits f past built legal.1) (acts_name f past s legal.1)).tables
+base_fits f (Undo c s ∷ past) built legal = base_fits f past built legal.1
+base_fits f (Start c n m a d r ∷ past) built legal = base_fits f past built legal.1
+base_fits f (Finish c n ∷ past) built legal = base_fits f past built legal.1
 
 -- what a session changes is of rows of the tables
-pub changes_fit : (f : Fixed) (past : List Entry) (session : ℕ) → AreTables f.defs → Legal f past → AllByRecursion (ChangeFits f.defs) (changes (beginning f) past session)
-changes_fit f past session are legal =
-    (run_fits f.defs are (holds past session) (base (beginning f) past) (acts past session) (base_fits f past are legal) (acts_name f past session legal)).changes
+pub changes_fit : (f : Fixed) (past : List Entry) (session : ℕ) → IsBuilt f → Legal f past → AllByRecursion (ChangeFits f.defs) (changes (beginning f) past session)
+changes_fit f past session built legal =
+    (run_fits f.defs built.each (holds past session) (base (beginning f) past) (acts past session) (base_fits f past built legal) (acts_name f past session legal)).changes
 
 -- ---- what the rules bind
 
@@ -359,7 +359,7 @@ made_row : (defs : List TableDef) (def : TableDef) (first : IsFirst defs def) (g
 made_row defs def first group sum count fits small counted =
     subst (λ (d : TableDef). DeltaFits d (group ∷ Int sum ∷ Int count ∷ [])) (sym first.is) (record { fits = (fits, (big_number sum small, (big_number count counted, tt))); small = (small, (counted, tt)) })
 
-module _ (defs : List TableDef) (k : Keeper) (keeps : IsKept defs k) where
+module _ (defs : List TableDef) (k : Keeper) (keeps : KeepsFirst defs k) where
   abbrev DeltaTo : List Value → Type 0
   DeltaTo = DeltaFits (def_at defs k.table)
 
@@ -432,7 +432,7 @@ bound_rows_fit def [] all = tt
 bound_rows_fit def (row ∷ rows) all = (record { into = refl; delta = all.0 }, bound_rows_fit def rows all.1)
 
 -- what the rule of one keeper binds
-bound_by_fits : (defs : List TableDef) (k : Keeper) (cs : List Change) → IsKept defs k → AllByRecursion (ChangeFits defs) cs → AllByRecursion (BoundFits (def_at defs k.table)) (bound_by k cs)
+bound_by_fits : (defs : List TableDef) (k : Keeper) (cs : List Change) → KeepsFirst defs k → AllByRecursion (ChangeFits defs) cs → AllByRecursion (BoundFits (def_at defs k.table)) (bound_by k cs)
 bound_by_fits defs k cs keeps all =
     let def = def_at defs k.table in
     let each = λ (s : Side). bound_rows_fit def (in_order (deltas s k cs)) (all_in_order (DeltaFits def) (deltas s k cs) (deltas_fit defs k keeps s cs all)) in
@@ -442,65 +442,65 @@ bound_by_fits defs k cs keeps all =
     (all_append (BoundFits def) (rows_by side.Inserted) (rows_by side.Deleted) (each side.Inserted) (each side.Deleted)) (each side.Old)) (each side.New)
 
 -- what a rule binds at a commit is for the table that it keeps
-pub record FiredFits (defs : List TableDef) (f : FiredRule) : Type 0 where
-  pub known : f.number < length (rules_from 0 defs)
-  pub each : AllByRecursion (BoundFits (kept_def defs f.number)) f.rows
+pub record FiredFits (f : Fixed) (fires : FiredRule) : Type 0 where
+  pub known : fires.number < length f.rules
+  pub each : AllByRecursion (BoundFits (kept_def f fires.number)) fires.rows
 
-with_fired_fits : (defs : List TableDef) (number : ℕ) (bounds : List Bound) (others : List FiredRule) → number < length (rules_from 0 defs) → AllByRecursion (BoundFits (kept_def defs number)) bounds → AllByRecursion (FiredFits defs) others → AllByRecursion (FiredFits defs) (with_fired number bounds others)
-with_fired_fits defs number [] others lt all rest = rest
-with_fired_fits defs number (b ∷ bounds) others lt all rest = (record { known = lt; each = all }, rest)
+with_fired_fits : (f : Fixed) (number : ℕ) (bounds : List Bound) (others : List FiredRule) → number < length f.rules → AllByRecursion (BoundFits (kept_def f number)) bounds → AllByRecursion (FiredFits f) others → AllByRecursion (FiredFits f) (with_fired number bounds others)
+with_fired_fits f number [] others lt all rest = rest
+with_fired_fits f number (b ∷ bounds) others lt all rest = (record { known = lt; each = all }, rest)
 
-fired_from_fits : (defs : List TableDef) (number : ℕ) (ks : List Keeper) (cs : List Change) → ((i : ℕ) → get_or ks i no_keeper ≡ keeper_at defs (number + i)) → number + length ks ≤ length (rules_from 0 defs)
-    → AllByRecursion (IsKept defs) ks → AllByRecursion (ChangeFits defs) cs → AllByRecursion (FiredFits defs) (fired_by number ks cs)
-fired_from_fits defs number [] cs places le keeps all = tt
-fired_from_fits defs number (k ∷ ks) cs places le keeps all =
+fired_from_fits : (f : Fixed) (number : ℕ) (ks : List Keeper) (cs : List Change) → ((i : ℕ) → get_or ks i no_keeper ≡ keeper_at f (number + i)) → number + length ks ≤ length f.rules
+    → AllByRecursion (KeepsFirst f.defs) ks → AllByRecursion (ChangeFits f.defs) cs → AllByRecursion (FiredFits f) (fired_by number ks cs)
+fired_from_fits f number [] cs places le keeps all = tt
+fired_from_fits f number (k ∷ ks) cs places le keeps all =
     let itself : number + 0 ≡ number = omega arith in
-    let here : k ≡ keeper_at defs number = places 0 ∙ ap (keeper_at defs) itself in
-    with_fired_fits defs number (bound_by k cs) (fired_by (number + 1) ks cs) (omega arith)
-    (subst (λ (one : Keeper). AllByRecursion (BoundFits (def_at defs one.table)) (bound_by k cs)) here (bound_by_fits defs k cs keeps.0 all))
-    (fired_from_fits defs (number + 1) ks cs (λ i. let same : number + suc i ≡ (number + 1) + i = omega arith in places (suc i) ∙ ap (keeper_at defs) same) (omega arith) keeps.1 all)
+    let here : k ≡ keeper_at f number = places 0 ∙ ap (keeper_at f) itself in
+    with_fired_fits f number (bound_by k cs) (fired_by (number + 1) ks cs) (omega arith)
+    (subst (λ (one : Keeper). AllByRecursion (BoundFits (def_at f.defs one.table)) (bound_by k cs)) here (bound_by_fits f.defs k cs keeps.0 all))
+    (fired_from_fits f (number + 1) ks cs (λ i. let same : number + suc i ≡ (number + 1) + i = omega arith in places (suc i) ∙ ap (keeper_at f) same) (omega arith) keeps.1 all)
 
-pub fired_by_fits : (defs : List TableDef) (cs : List Change) → AreTables defs → AllByRecursion (ChangeFits defs) cs → AllByRecursion (FiredFits defs) (fired_by 0 (keepers_from 0 defs) cs)
-fired_by_fits defs cs are all =
-    let many = rules_count defs in
-    fired_from_fits defs 0 (keepers_from 0 defs) cs (λ i. let same : i ≡ 0 + i = omega arith in ap (keeper_at defs) same) (omega arith) (all_kept defs are) all
+pub fired_by_fits : (f : Fixed) (cs : List Change) → IsBuilt f → AllByRecursion (ChangeFits f.defs) cs → AllByRecursion (FiredFits f) (fired_by 0 (all_keepers f) cs)
+fired_by_fits f cs built all =
+    let many = rules_count f built in
+    fired_from_fits f 0 (all_keepers f) cs (λ i. let same : i ≡ 0 + i = omega arith in ap (keeper_at f) same) (omega arith) (all_kept f built) all
 
 -- ---- all bound rows of a legal history
 
 -- a bound row is of the one bound table, bound by a rule that is there, in an action of the function of the rule's number, and
 -- is for the table that the rule keeps
-pub record RowFits (defs : List TableDef) (r : BoundRow) : Type 0 where
+pub record RowFits (f : Fixed) (r : BoundRow) : Type 0 where
   pub table : r.table ≡ 0
-  pub known : r.rule < length (rules_from 0 defs)
+  pub known : r.rule < length f.rules
   pub of : r.action.function ≡ r.rule
-  pub fits : FitsColumns (kept_def defs r.rule).columns r.row
-  pub small : AllByRecursion (IsUnder (2 ^ 63)) (totals_of (kept_def defs r.rule) r.row)
+  pub fits : FitsColumns (kept_def f r.rule).columns r.row
+  pub small : AllByRecursion (IsUnder (2 ^ 63)) (totals_of (kept_def f r.rule) r.row)
 
-rows_of_rule_fit : (defs : List TableDef) (past : List Happened) (place moment : ℕ) (f : FiredRule) → FiredFits defs f → AllByRecursion (RowFits defs) (rows_of_rule (rules_from 0 defs) past place moment f)
-rows_of_rule_fit defs past place moment f fits =
-    all_map (RowFits defs) (as_bound (rules_from 0 defs) past place moment f.number) f.rows
-    (all_weaker (BoundFits (kept_def defs f.number)) (λ b. RowFits defs (as_bound (rules_from 0 defs) past place moment f.number b)) (λ b one.
-    record { table = one.into; known = fits.known; of = rule_function defs f.number fits.known; fits = one.delta.fits; small = one.delta.small }) f.rows fits.each)
+rows_of_rule_fit : (f : Fixed) → IsBuilt f → (past : List Happened) (place moment : ℕ) (fires : FiredRule) → FiredFits f fires → AllByRecursion (RowFits f) (rows_of_rule f.rules past place moment fires)
+rows_of_rule_fit f built past place moment fires fits =
+    all_map (RowFits f) (as_bound f.rules past place moment fires.number) fires.rows
+    (all_weaker (BoundFits (kept_def f fires.number)) (λ b. RowFits f (as_bound f.rules past place moment fires.number b)) (λ b one.
+    record { table = one.into; known = fits.known; of = rule_function f built fires.number fits.known; fits = one.delta.fits; small = one.delta.small }) fires.rows fits.each)
 
-module _ (defs : List TableDef) (are : AreTables defs) (most : ℕ) where
+module _ (f : Fixed) (built : IsBuilt f) where
   -- what the rules bind where a session commits next
-  pub fired_fits : (past : List Entry) (session : ℕ) → Legal (fixed_by defs most) past → AllByRecursion (FiredFits defs) (fired_at (fixed_by defs most) past session)
+  pub fired_fits : (past : List Entry) (session : ℕ) → Legal f past → AllByRecursion (FiredFits f) (fired_at f past session)
   fired_fits past session legal =
-      let before = base (beginning (fixed_by defs most)) past in
-      let cs = changes (beginning (fixed_by defs most)) past session in
-      let all = changes_fit (fixed_by defs most) past session are legal in
-      subst (AllByRecursion (FiredFits defs)) (sym (fired_is defs are before (run (holds past session) before (acts past session)).tables cs all)) (fired_by_fits defs cs are all)
+      let before = base (beginning f) past in
+      let cs = changes (beginning f) past session in
+      let all = changes_fit f past session built legal in
+      subst (AllByRecursion (FiredFits f)) (sym (fired_is f built before (run (holds past session) before (acts past session)).tables cs all)) (fired_by_fits f cs built all)
 
-  pub rows_fit : (past : List Entry) → Legal (fixed_by defs most) past → AllByRecursion (RowFits defs) (all_rows (rules_from 0 defs) (happened (fixed_by defs most) past))
+  pub rows_fit : (past : List Entry) → Legal f past → AllByRecursion (RowFits f) (all_rows f.rules (happened f past))
   rows_fit [] legal = tt
   rows_fit (Begin c s w r ∷ past) legal = rows_fit past legal.1
   rows_fit (Did c s a reply ∷ past) legal = rows_fit past legal.1
   rows_fit (Commit c s m ∷ past) legal =
-      let before = kept (happened (fixed_by defs most) past) in
-      let fired = fired_at (fixed_by defs most) past s in
-      all_append (RowFits defs) (rows_bound (rules_from 0 defs) before) (flat_map (rows_of_rule (rules_from 0 defs) before (length past) m) fired) (rows_fit past legal.1)
-      (all_flat (RowFits defs) (rows_of_rule (rules_from 0 defs) before (length past) m) fired
-      (all_weaker (FiredFits defs) (λ f. AllByRecursion (RowFits defs) (rows_of_rule (rules_from 0 defs) before (length past) m f)) (rows_of_rule_fit defs before (length past) m) fired (fired_fits past s legal.1)))
+      let before = kept (happened f past) in
+      let fired = fired_at f past s in
+      all_append (RowFits f) (rows_bound f.rules before) (flat_map (rows_of_rule f.rules before (length past) m) fired) (rows_fit past legal.1)
+      (all_flat (RowFits f) (rows_of_rule f.rules before (length past) m) fired
+      (all_weaker (FiredFits f) (λ fires. AllByRecursion (RowFits f) (rows_of_rule f.rules before (length past) m fires)) (rows_of_rule_fit f built before (length past) m) fired (fired_fits past s legal.1)))
   rows_fit (Undo c s ∷ past) legal = rows_fit past legal.1
   rows_fit (Start c n m a d r ∷ past) legal = rows_fit past legal.1
   rows_fit (Finish c n ∷ past) legal = rows_fit past legal.1
@@ -508,20 +508,20 @@ module _ (defs : List TableDef) (are : AreTables defs) (most : ℕ) where
 -- ---- the rows of one action
 
 -- such a row is to be added to the table of its rule
-adds_to : (defs : List TableDef) (n : ℕ) (r : BoundRow) → RowFits defs r → r.rule ≡ n → AddsTo (kept_def defs n) r
-adds_to defs n r one e = subst (λ m. AddsTo (kept_def defs m) r) e (record { table = one.table; fits = one.fits; small = one.small })
+adds_to : (f : Fixed) (n : ℕ) (r : BoundRow) → RowFits f r → r.rule ≡ n → AddsTo (kept_def f n) r
+adds_to f n r one e = subst (λ m. AddsTo (kept_def f m) r) e (record { table = one.table; fits = one.fits; small = one.small })
 
 -- so the rows of an action are to be added to the table of its function's rule
-pub rows_of_add : (defs : List TableDef) (rules : List Rule) (past : List Happened) (action : ActionId) → AllByRecursion (RowFits defs) (all_rows rules past) → AllByRecursion (AddsTo (kept_def defs action.function)) (rows_of rules past action)
-rows_of_add defs rules past action all =
-    passed (RowFits defs) (AddsTo (kept_def defs action.function)) (in_action action) (λ r e one.
-    adds_to defs action.function r one (sym one.of ∙ ap (λ (a : ActionId). a.function) (same_action_equal r.action action e))) (all_rows rules past) all
+pub rows_of_add : (f : Fixed) (rules : List Rule) (past : List Happened) (action : ActionId) → AllByRecursion (RowFits f) (all_rows rules past) → AllByRecursion (AddsTo (kept_def f action.function)) (rows_of rules past action)
+rows_of_add f rules past action all =
+    passed (RowFits f) (AddsTo (kept_def f action.function)) (in_action action) (λ r e one.
+    adds_to f action.function r one (sym one.of ∙ ap (λ (a : ActionId). a.function) (same_action_equal r.action action e))) (all_rows rules past) all
 
 -- and there is such a rule for each action
-pub action_known : (defs : List TableDef) (rules : List Rule) (past : List Happened) → AllByRecursion (RowFits defs) (all_rows rules past) → AllByRecursion (λ a. a.action.function < length (rules_from 0 defs)) (actions rules past)
-action_known defs rules past all =
-    all_firsts (λ a. a.action.function < length (rules_from 0 defs)) (all_rows rules past)
-    (all_weaker (RowFits defs) (λ a. a.action.function < length (rules_from 0 defs)) (λ a one. let of = one.of in let known = one.known in omega arith) (all_rows rules past) all)
+pub action_known : (f : Fixed) (rules : List Rule) (past : List Happened) → AllByRecursion (RowFits f) (all_rows rules past) → AllByRecursion (λ a. a.action.function < length f.rules) (actions rules past)
+action_known f rules past all =
+    all_firsts (λ a. a.action.function < length f.rules) (all_rows rules past)
+    (all_weaker (RowFits f) (λ a. a.action.function < length f.rules) (λ a one. let of = one.of in let known = one.known in omega arith) (all_rows rules past) all)
 
 -- ---- an action that waits
 
@@ -536,28 +536,28 @@ bound_within f (Start c n m a d r ∷ past) legal = bound_within f past legal.1
 bound_within f (Finish c n ∷ past) legal = bound_within f past legal.1
 
 -- the action of what a rule bound at a commit, by the rule's number
-pub plain_is : (defs : List TableDef) (fg : Firing) → fg.fired.number < length (rules_from 0 defs) → plain_action (rules_from 0 defs) fg ≡ plain_id fg.place fg.fired.number
-plain_is defs fg lt = ap (λ n. record { function = n; key = Plain fg.place fg.fired.number }) (rule_function defs fg.fired.number lt)
+pub plain_is : (f : Fixed) → IsBuilt f → (fg : Firing) → fg.fired.number < length f.rules → plain_action f.rules fg ≡ plain_id fg.place fg.fired.number
+plain_is f built fg lt = ap (λ n. record { function = n; key = Plain fg.place fg.fired.number }) (rule_function f built fg.fired.number lt)
 
 -- what an action that waits is to do, and that its sums can be made
 pub record WaitingFolds (f : Fixed) (past : List Entry) (w : Waiting) : Type 0 where
-  pub content : contents f.defs (get_or f.functions (plain_action f.rules (as_firing w)).function no_function) (rows_of f.rules (happened f past) (plain_action f.rules (as_firing w))) ≡ content_of (kept_def f.defs w.fired.number) w.fired.rows
-  pub can : CanFold (kept_def f.defs w.fired.number) w.fired.rows
+  pub content : contents f.defs (get_or f.functions (plain_action f.rules (as_firing w)).function no_function) (rows_of f.rules (happened f past) (plain_action f.rules (as_firing w))) ≡ content_of (kept_def f w.fired.number) w.fired.rows
+  pub can : CanFold (kept_def f w.fired.number) w.fired.rows
 
-pub waiting_folds : (defs : List TableDef) → AreTables defs → (most : ℕ) (past : List Entry) → Legal (fixed_by defs most) past → bound_count (fixed_by defs most) past ≤ 2 ^ 60 → (w : Waiting) → IsWaiting (rules_from 0 defs) (happened (fixed_by defs most) past) w → WaitingFolds (fixed_by defs most) past w
-waiting_folds defs are most past legal few w is =
-    let rules = rules_from 0 defs in
-    let before = happened (fixed_by defs most) past in
+pub waiting_folds : (f : Fixed) → IsBuilt f → (past : List Entry) → Legal f past → bound_count f past ≤ 2 ^ 60 → (w : Waiting) → IsWaiting f.rules (happened f past) w → WaitingFolds f past w
+waiting_folds f built past legal few w is =
+    let rules = f.rules in
+    let before = happened f past in
     let action = plain_action rules (as_firing w) in
     let n = w.fired.number in
-    let function_is : action.function ≡ n = rule_function defs n is.1 in
-    let adding : AllByRecursion (AddsTo (kept_def defs n)) (rows_of rules before action) =
-    subst (λ m. AllByRecursion (AddsTo (kept_def defs m)) (rows_of rules before action)) function_is (rows_of_add defs rules before action (rows_fit defs are most past legal)) in
-    let own = subst (AllByRecursion (AddsTo (kept_def defs n))) is.0 adding in
+    let function_is : action.function ≡ n = rule_function f built n is.1 in
+    let adding : AllByRecursion (AddsTo (kept_def f n)) (rows_of rules before action) =
+    subst (λ m. AllByRecursion (AddsTo (kept_def f m)) (rows_of rules before action)) function_is (rows_of_add f rules before action (rows_fit f built past legal)) in
+    let own = subst (AllByRecursion (AddsTo (kept_def f n))) is.0 adding in
     let fewer = length-filter_both (in_action action) (λ r. not (in_action action r)) (λ r. refl) (all_rows rules before) in
     let long = ap length is.0 in
     let bounds = length-map w.fired.rows (as_bound rules [] w.place w.moment n) in
     record {
-      content = ap₂ (λ m rows. contents defs (get_or (functions_from 0 defs) m no_function) rows) function_is is.0 ∙ contents_are defs are n is.1 (as_firing w) own;
-      can = can_fold defs are n is.1 (as_firing w) own (omega arith);
+      content = ap₂ (λ m rows. contents f.defs (get_or f.functions m no_function) rows) function_is is.0 ∙ contents_are f built n is.1 (as_firing w) own;
+      can = can_fold f built n is.1 (as_firing w) own (omega arith);
     }

@@ -19,8 +19,8 @@ use Rattle.strip_meaning.specs.Effect.{is_alike, outside_at, kind_mismatch, out_
 use Rattle.strip_value.specs.declared.queries.Query.{Query}
 use Rattle.strip_meaning.specs.Contents.{def_at}
 use Rattle.strip_meaning.specs.First.{IsBase, first_def, is_stored}
-use Rattle.strip_engine.specs.Setup.{IsTableOf, AreTables}
-use Rattle.strip_engine.specs.Steps.{defs_of}
+use Rattle.strip_engine.specs.Built.{IsTableOf}
+use Rattle.strip_engine.specs.Steps.{AreTables, defs_of}
 
 -- of two causes that aren't there neither is
 pub neither : (a b : Option ActError) → or_cause a b ≡ None → (a ≡ None) × (b ≡ None)
@@ -66,12 +66,16 @@ def_of_table tables id = get_or-map (λ table. table.def) tables id no_table
 -- a table among the tables is a base table or a derived one
 pub one_of : (tables : List Keyed) (id : ℕ) → AreTables (defs_of tables) → id < length tables → IsTableOf (defs_of tables) (table_at tables id).def
 one_of tables id are lt =
-    subst (IsTableOf (defs_of tables)) (def_of_table tables id) (all_at (IsTableOf (defs_of tables)) (defs_of tables) id no_table.def are.each (omega (arith, length-map tables (λ (table : Keyed). table.def))))
+    subst (IsTableOf (defs_of tables)) (def_of_table tables id) (all_at (IsTableOf (defs_of tables)) (defs_of tables) id no_table.def are (omega (arith, length-map tables (λ (table : Keyed). table.def))))
 
--- either has few columns
-pub narrow : (defs : List TableDef) (def : TableDef) → IsTableOf defs def → length def.columns ≤ 16
-narrow defs def (inl base) = base.narrow
-narrow defs def (inr first) = subst (λ (d : TableDef). length d.columns ≤ 16) (sym first.is) (omega arith)
+-- one without a query has few columns
+pub narrow : (defs : List TableDef) (def : TableDef) → IsTableOf defs def → def.query ≡ None → length def.columns ≤ 16
+narrow defs def (inl base) none = base.narrow
+narrow defs def (inr (inl first)) none = subst (λ (d : TableDef). length d.columns ≤ 16) (sym first.is) (omega arith)
+narrow defs def (inr (inr unkept)) none =
+    let bare : is_some def.query ≡ false = ap is_some none in
+    let derived_here = unkept.derived in
+    cc
 
 no_query : (q : Option Query) (id : ℕ) → cond (is_some q) (Some (Derived id)) None ≡ None → q ≡ None
 no_query None id e = refl
@@ -80,8 +84,12 @@ no_query (Some q) id e = cc
 -- a table that isn't derived is a base table
 pub is_base : (defs : List TableDef) (def : TableDef) (id : ℕ) → IsTableOf defs def → derived def id ≡ None → IsBase def
 is_base defs def id (inl base) none = base
-is_base defs def id (inr first) none =
+is_base defs def id (inr (inl first)) none =
     let bare : (first_def def.name first.form first.kind def.kept def.declared).query ≡ None = sym (ap (λ (d : TableDef). d.query) first.is) ∙ no_query def.query id none in
+    cc
+is_base defs def id (inr (inr unkept)) none =
+    let bare : is_some def.query ≡ false = ap is_some (no_query def.query id none) in
+    let derived_here = unkept.derived in
     cc
 
 -- what indexing the tables gives

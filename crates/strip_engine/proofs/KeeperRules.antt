@@ -1,10 +1,13 @@
 -- The rules and the functions of a catalog, against its keepers: as many, at the same places, and of the same tables.
-use Rattle.std.proofs.Common.{◌≡◌, ℕ, ℤ, pos, neg_ℤ, ◌-ℤ◌, zero, suc, ◌+◌, ◌^◌, ◌<◌, ◌≤◌, ◌==◌, inl, inr, Bool, true, false, ◌&&◌, ◌||◌, cond, List, [], ◌∷◌, ◌++◌, map, filter, length, get_or, Option, Some, None, refl, sym, ap, ap₂, ◌∙◌, subst, arith, append-nil, append_assoc}
-use Rattle.std.specs.List.{AllByRecursion, flat_map}
+use Rattle.std.proofs.Common.{◌≡◌, ℕ, ℤ, pos, neg_ℤ, ◌-ℤ◌, zero, suc, ◌+◌, ◌^◌, ◌<◌, ◌≤◌, ◌==◌, Bool, true, false, ◌&&◌, ◌||◌, cond, List, [], ◌∷◌, ◌++◌, map, filter, length, get_or, Option, Some, None, not, refl, sym, ap, ap₂, ◌∙◌, subst, arith, append-nil, append_assoc}
+use Rattle.std.specs.List.{AllByRecursion, IsDistinct, flat_map, list_any}
+use Rattle.std.proofs.Math.Dec.{eqb}
+use Rattle.std.proofs.lemmas.List.{length-map}
+use Rattle.std.proofs.lemmas.Map.Steps.{length-le_from_distinct_below}
 use Rattle.std.proofs.Math.IntN.{+ℤ_idl}
 use Rattle.std.proofs.Math.ListN.{get_or-append}
 use Rattle.std.proofs.lemmas.Int.{ints}
-use borrow.Author.Tests.{eqb-true}
+use borrow.Author.Tests.{eqb-true, eq-eqb, ne_eqb}
 use Rattle.strip_value.specs.declared.actions.Bound.{Bound}
 use Rattle.strip_value.specs.declared.changes.Change.{Change}
 use Rattle.strip_value.specs.declared.changes.Moved.{Moved}
@@ -25,14 +28,12 @@ use Rattle.strip_value.specs.Table.{Keyed, column_of}
 use Rattle.strip_meaning.specs.Firing.{has_rows, rows_bound, is_met, at_commit, fired}
 use Rattle.strip_meaning.specs.Sums.{IsUnder}
 use Rattle.strip_meaning.specs.Moved.{numbered, with_shift, moved_from, moved}
-use Rattle.strip_model.specs.Derived.{fired_from, with_fired}
+use Rattle.strip_model.specs.Derived.{Fixed, fired_from, with_fired}
 use Rattle.strip_engine.specs.declared.deltas.Side.{Side}
 use Rattle.strip_engine.specs.declared.deltas.Side.TheVariants as side
 use Rattle.strip_engine.specs.Changes.{ShiftFits, ChangeFits, moved_row, coming_row, going_row, delta_row, with_delta, deltas, bound_rows, bound_by, fired_by}
 use Rattle.strip_value.specs.declared.kinds.Kind.{Kind}
 use Rattle.strip_value.specs.declared.kinds.Kind.TheVariants as kind
-use Rattle.strip_value.specs.declared.queries.Query.{Query}
-use Rattle.strip_value.specs.declared.rules.Function.{Function}
 use Rattle.strip_value.specs.declared.rules.Rule.{Rule}
 use Rattle.strip_value.specs.declared.tables.TableDef.{TableDef}
 use Rattle.strip_value.proofs.Lists.{all_at, all_weaker}
@@ -43,187 +44,161 @@ use Rattle.strip_meaning.specs.Maintained.{coming, going, delta_query, delta_que
 use Rattle.strip_meaning.proofs.PlainActions.{IsAtOnce}
 use Rattle.strip_engine.specs.declared.keepers.Keeper.{Keeper}
 use Rattle.strip_meaning.specs.First.{Form, IsFirst, first_query, no_column}
-use Rattle.strip_engine.specs.Keepers.{keeper_by, keeper_before, keepers_from, no_keeper, keeper_at, kept_def}
+use Rattle.strip_engine.specs.Keepers.{all_keepers, keeper_at, keeper_by, keepers_of, kept_def, no_keeper}
 use Rattle.strip_engine.specs.Deltas.{IsSmallAt, IsSmallShift, FitsKeeper, KeepsSmall}
-use Rattle.strip_engine.specs.Rules.{at_once, rule_before, rules_from, function_before, functions_from}
-use Rattle.strip_engine.specs.Setup.{IsTableOf, AreTables}
+use Rattle.strip_engine.specs.Built.{IsBuilt, IsKept, all_differ, at_once, functions_of, is_among, kept_tables, rules_of}
+use Rattle.strip_setup.specs.Maintain.{query_in}
 
 -- ---- as many of each
 
-rules_before : (declared : Bool) (query : Option Query) (def : TableDef) (first table : ℕ) (others : ℕ → List Rule) (ks : List Keeper) → ((next : ℕ) → length (others next) ≡ length ks) → length (rule_before declared query def first others) ≡ length (keeper_before declared query table ks)
-rules_before true (Some query) def first table others ks same = ap suc (same (first + 1))
-rules_before true None def first table others ks same = same first
-rules_before false query def first table others ks same = same first
+rules_many : (defs : List TableDef) (first : ℕ) (ids : List ℕ) → length (rules_of defs first ids) ≡ length (keepers_of defs ids)
+rules_many defs first [] = refl
+rules_many defs first (id ∷ ids) = ap suc (rules_many defs (first + 1) ids)
 
-rules_count_from : (defs : List TableDef) (first table : ℕ) → length (rules_from first defs) ≡ length (keepers_from table defs)
-rules_count_from [] first table = refl
-rules_count_from (def ∷ defs) first table =
-    rules_before def.declared def.query def first table (λ next. rules_from next defs) (keepers_from (table + 1) defs) (λ next. rules_count_from defs next (table + 1))
+pub rules_count : (f : Fixed) → IsBuilt f → length f.rules ≡ length (all_keepers f)
+rules_count f built = ap length built.rules ∙ rules_many f.defs 0 (kept_tables f.functions)
 
-pub rules_count : (defs : List TableDef) → length (rules_from 0 defs) ≡ length (keepers_from 0 defs)
-rules_count defs = rules_count_from defs 0 0
+-- no table is kept twice, so no more are kept than there are
 
-functions_before : (declared : Bool) (query : Option Query) (def : TableDef) (table : ℕ) (others : List Function) (ks : List Keeper) → length others ≡ length ks → length (function_before declared query def table others) ≡ length (keeper_before declared query table ks)
-functions_before true (Some query) def table others ks same = ap suc same
-functions_before true None def table others ks same = same
-functions_before false query def table others ks same = same
+turned : (a b : ℕ) → (a == b) ≡ (b == a)
+turned a b = by_test (a == b) refl
+  where
+    by_test : (t : Bool) → (a == b) ≡ t → (a == b) ≡ (b == a)
+    by_test true e = e ∙ sym (eq-eqb b a (sym (eqb-true a b e)))
+    by_test false e = e ∙ sym (ne_eqb b a (λ same. let met = eq-eqb a b (sym same) in cc))
 
-functions_count_from : (defs : List TableDef) (table : ℕ) → length (functions_from table defs) ≡ length (keepers_from table defs)
-functions_count_from [] table = refl
-functions_count_from (def ∷ defs) table =
-    functions_before def.declared def.query def table (functions_from (table + 1) defs) (keepers_from (table + 1) defs) (functions_count_from defs (table + 1))
+differ_from : (ids : List ℕ) (id : ℕ) → is_among ids id ≡ false → AllByRecursion (λ other. (id == other) ≡ false) ids
+differ_from [] id none = tt
+differ_from (other ∷ ids) id none = by_test (other == id) refl none (differ_from ids id)
+  where
+    by_test : (b : Bool) → (other == id) ≡ b → (b || is_among ids id) ≡ false
+        → (is_among ids id ≡ false → AllByRecursion (λ one. (id == one) ≡ false) ids)
+        → ((id == other) ≡ false) × AllByRecursion (λ one. (id == one) ≡ false) ids
+    by_test true e none rest = cc
+    by_test false e none rest = (turned id other ∙ e, rest none)
 
-pub functions_count : (defs : List TableDef) → length (functions_from 0 defs) ≡ length (keepers_from 0 defs)
-functions_count defs = functions_count_from defs 0
+distinct_ids : (ids : List ℕ) → all_differ ids ≡ true → IsDistinct eqb ids
+unfolding IsDistinct
+distinct_ids [] differ = tt
+distinct_ids (id ∷ ids) differ = by_test (is_among ids id) refl differ (distinct_ids ids)
+  where
+    by_test : (b : Bool) → is_among ids id ≡ b → (not b && all_differ ids) ≡ true → (all_differ ids ≡ true → IsDistinct eqb ids)
+        → IsDistinct eqb (id ∷ ids)
+    by_test true e differ rest = cc
+    by_test false e differ rest = (differ_from ids id e, rest differ)
 
-few_before : (declared : Bool) (query : Option Query) (table : ℕ) (ks : List Keeper) (most : ℕ) → length ks ≤ most → length (keeper_before declared query table ks) ≤ suc most
-few_before true (Some query) table ks most few = omega arith
-few_before true None table ks most few = omega arith
-few_before false query table ks most few = omega arith
+-- what is so of each number is so of one among them
+pub one_among : (P : ℕ → Type 0) (ids : List ℕ) (id : ℕ) → AllByRecursion P ids → is_among ids id ≡ true → P id
+one_among P [] id all there = cc
+one_among P (other ∷ ids) id all there = by_test (other == id) refl there (one_among P ids id all.1)
+  where
+    by_test : (b : Bool) → (other == id) ≡ b → (b || is_among ids id) ≡ true → (is_among ids id ≡ true → P id) → P id
+    by_test true e there rest = subst P (eqb-true other id e) all.0
+    by_test false e there rest = rest there
 
-few_from : (defs : List TableDef) (table : ℕ) → length (keepers_from table defs) ≤ length defs
-few_from [] table = omega arith
-few_from (def ∷ defs) table = few_before def.declared def.query table (keepers_from (table + 1) defs) (length defs) (few_from defs (table + 1))
+among_either : (ids : List ℕ) (id : ℕ) → list_any (λ other. id == other) ids ≡ is_among ids id
+among_either [] id = refl
+among_either (other ∷ ids) id = ap₂ (λ a b. a || b) (turned id other) (among_either ids id)
 
-pub keepers_few : (defs : List TableDef) → AreTables defs → length (keepers_from 0 defs) ≤ 64
-keepers_few defs are =
-    let few = are.few in
-    let fewer = few_from defs 0 in
-    omega arith
+pub keepers_few : (f : Fixed) → IsBuilt f → length (all_keepers f) ≤ 64
+keepers_few f built =
+    let ids = kept_tables f.functions in
+    let among = λ (id : ℕ) (there : list_any (λ other. id == other) ids ≡ true). sym (among_either ids id) ∙ there in
+    let below = λ (id : ℕ) (there : list_any (λ other. id == other) ids ≡ true).
+    (one_among (IsKept f.defs) ids id built.kept (among id there)).there in
+    let fewer = length-le_from_distinct_below ids (length f.defs) (distinct_ids ids built.once) below in
+    let few = built.few in
+    omega (arith, length-map ids (λ (id : ℕ). keeper_by id (query_in (def_at f.defs id))))
 
 -- ---- no rule is unique, and none waits
 
-plain_before : (declared : Bool) (query : Option Query) (def : TableDef) (first : ℕ) (others : ℕ → List Rule) → ((next : ℕ) → AllByRecursion IsPlainRule (others next)) → AllByRecursion IsPlainRule (rule_before declared query def first others)
-plain_before true (Some query) def first others all = (refl, all (first + 1))
-plain_before true None def first others all = all first
-plain_before false query def first others all = all first
+plain_of : (defs : List TableDef) (first : ℕ) (ids : List ℕ) → AllByRecursion IsPlainRule (rules_of defs first ids)
+plain_of defs first [] = tt
+plain_of defs first (id ∷ ids) = (refl, plain_of defs (first + 1) ids)
 
-pub rules_plain : (defs : List TableDef) (n : ℕ) → AllByRecursion IsPlainRule (rules_from n defs)
-rules_plain [] n = tt
-rules_plain (def ∷ defs) n = plain_before def.declared def.query def n (λ next. rules_from next defs) (rules_plain defs)
+pub rules_plain : (f : Fixed) → IsBuilt f → AllByRecursion IsPlainRule f.rules
+rules_plain f built = subst (AllByRecursion IsPlainRule) (sym built.rules) (plain_of f.defs 0 (kept_tables f.functions))
 
-at_once_before : (declared : Bool) (query : Option Query) (def : TableDef) (first : ℕ) (others : ℕ → List Rule) → ((next : ℕ) → AllByRecursion IsAtOnce (others next)) → AllByRecursion IsAtOnce (rule_before declared query def first others)
-at_once_before true (Some query) def first others all = (refl, all (first + 1))
-at_once_before true None def first others all = all first
-at_once_before false query def first others all = all first
+at_once_of : (defs : List TableDef) (first : ℕ) (ids : List ℕ) → AllByRecursion IsAtOnce (rules_of defs first ids)
+at_once_of defs first [] = tt
+at_once_of defs first (id ∷ ids) = (refl, at_once_of defs (first + 1) ids)
 
-pub rules_at_once : (defs : List TableDef) (n : ℕ) → AllByRecursion IsAtOnce (rules_from n defs)
-rules_at_once [] n = tt
-rules_at_once (def ∷ defs) n = at_once_before def.declared def.query def n (λ next. rules_from next defs) (rules_at_once defs)
+pub rules_at_once : (f : Fixed) → IsBuilt f → AllByRecursion IsAtOnce f.rules
+rules_at_once f built = subst (AllByRecursion IsAtOnce) (sym built.rules) (at_once_of f.defs 0 (kept_tables f.functions))
 
 -- ---- each rule names the function at its own place
 
-abbrev HasFunctions : ℕ → List Rule → Type 0
-HasFunctions first rs = (n : ℕ) → n < length rs → (rule_at rs n).function ≡ first + n
-
-function_head : (declared : Bool) (query : Option Query) (def : TableDef) (first : ℕ) (others : ℕ → List Rule) → ((next : ℕ) → HasFunctions next (others next)) → HasFunctions first (rule_before declared query def first others)
-function_head true (Some query) def first others has zero lt = omega arith
-function_head true (Some query) def first others has (suc n) lt =
-    let rest : (rule_at (others (first + 1)) n).function ≡ (first + 1) + n = has (first + 1) n (omega arith) in
+function_of : (defs : List TableDef) (first : ℕ) (ids : List ℕ) (n : ℕ) → n < length (rules_of defs first ids)
+    → (rule_at (rules_of defs first ids) n).function ≡ first + n
+function_of defs first [] n lt = absurd (omega arith)
+function_of defs first (id ∷ ids) zero lt = omega arith
+function_of defs first (id ∷ ids) (suc n) lt =
+    let rest = function_of defs (first + 1) ids n (omega arith) in
     rest ∙ omega arith
-function_head true None def first others has n lt = has first n lt
-function_head false query def first others has n lt = has first n lt
 
-rule_functions : (defs : List TableDef) (first : ℕ) → HasFunctions first (rules_from first defs)
-rule_functions [] first n lt = absurd (omega arith)
-rule_functions (def ∷ defs) first n lt = function_head def.declared def.query def first (λ next. rules_from next defs) (rule_functions defs) n lt
-
-pub rule_function : (defs : List TableDef) (n : ℕ) → n < length (rules_from 0 defs) → (rule_at (rules_from 0 defs) n).function ≡ n
-rule_function defs n lt = rule_functions defs 0 n lt ∙ omega arith
+pub rule_function : (f : Fixed) → IsBuilt f → (n : ℕ) → n < length f.rules → (rule_at f.rules n).function ≡ n
+rule_function f built n lt =
+    let rules = rules_of f.defs 0 (kept_tables f.functions) in
+    let there : n < length rules = subst (λ (rs : List Rule). n < length rs) built.rules lt in
+    let itself : 0 + n ≡ n = omega arith in
+    ap (λ rs. (rule_at rs n).function) built.rules ∙ function_of f.defs 0 (kept_tables f.functions) n there ∙ itself
 
 -- ---- each function is that of the table that its keeper keeps
 
--- definitions stand in the whole list from this number on
-abbrev StandFrom : List TableDef → ℕ → List TableDef → Type 0
-StandFrom all table defs = (k : ℕ) → k < length defs → (table + k < length all) × (def_at all (table + k) ≡ def_at defs k)
+functions_are : (defs : List TableDef) (ids : List ℕ) (n : ℕ) → n < length (keepers_of defs ids)
+    → get_or (functions_of defs ids) n no_function
+    ≡ keep_function (def_at defs (get_or (keepers_of defs ids) n no_keeper).table) (get_or (keepers_of defs ids) n no_keeper).table
+functions_are defs [] n lt = absurd (omega arith)
+functions_are defs (id ∷ ids) zero lt = refl
+functions_are defs (id ∷ ids) (suc n) lt = functions_are defs ids n (omega arith)
 
-stand_all : (defs : List TableDef) → StandFrom defs 0 defs
-stand_all defs k lt =
-    let same : 0 + k ≡ k = omega arith in
-    (omega arith, ap (def_at defs) same)
-
-stand_next : (all : List TableDef) (table : ℕ) (def : TableDef) (defs : List TableDef) → StandFrom all table (def ∷ defs) → StandFrom all (table + 1) defs
-stand_next all table def defs stand k lt =
-    let same : (table + 1) + k ≡ table + suc k = omega arith in
-    let here = stand (suc k) (omega arith) in
-    let less : table + suc k < length all = here.0 in
-    (omega arith, ap (def_at all) same ∙ here.1)
-
-stand_first : (all : List TableDef) (table : ℕ) (def : TableDef) (defs : List TableDef) → StandFrom all table (def ∷ defs) → (table < length all) × (def_at all table ≡ def)
-stand_first all table def defs stand =
-    let same : table ≡ table + 0 = omega arith in
-    let here = stand 0 (omega arith) in
-    let less : table + 0 < length all = here.0 in
-    (omega arith, ap (def_at all) same ∙ here.1)
-
--- the functions are those of the keepers' tables
-abbrev KeepTables : List TableDef → List Function → List Keeper → Type 0
-KeepTables all fs ks = (n : ℕ) → n < length ks → get_or fs n no_function ≡ keep_function (def_at all (get_or ks n no_keeper).table) (get_or ks n no_keeper).table
-
-function_here : (all : List TableDef) (declared : Bool) (query : Option Query) (def : TableDef) (table : ℕ) (fs : List Function) (ks : List Keeper) → def_at all table ≡ def → KeepTables all fs ks → KeepTables all (function_before declared query def table fs) (keeper_before declared query table ks)
-function_here all true (Some query) def table fs ks same keep zero lt = ap (λ d. keep_function d table) (sym same)
-function_here all true (Some query) def table fs ks same keep (suc n) lt = keep n (omega arith)
-function_here all true None def table fs ks same keep n lt = keep n lt
-function_here all false query def table fs ks same keep n lt = keep n lt
-
-functions_are : (all : List TableDef) (table : ℕ) (defs : List TableDef) → StandFrom all table defs → KeepTables all (functions_from table defs) (keepers_from table defs)
-functions_are all table [] stand n lt = absurd (omega arith)
-functions_are all table (def ∷ defs) stand n lt =
-    function_here all def.declared def.query def table (functions_from (table + 1) defs) (keepers_from (table + 1) defs) (stand_first all table def defs stand).1 (functions_are all (table + 1) defs (stand_next all table def defs stand)) n lt
-
-pub function_is : (defs : List TableDef) (n : ℕ) → n < length (rules_from 0 defs) → get_or (functions_from 0 defs) n no_function ≡ keep_function (kept_def defs n) (keeper_at defs n).table
-function_is defs n lt = functions_are defs 0 defs (stand_all defs) n (subst (λ l. n < l) (rules_count defs) lt)
+pub function_is : (f : Fixed) → IsBuilt f → (n : ℕ) → n < length f.rules
+    → get_or f.functions n no_function ≡ keep_function (kept_def f n) (keeper_at f n).table
+function_is f built n lt =
+    ap (λ fs. get_or fs n no_function) built.functions
+    ∙ functions_are f.defs (kept_tables f.functions) n (subst (λ l. n < l) (rules_count f built) lt)
 
 -- ---- each keeper's table is a derived one, of the keeper's columns
 
-pub record IsKept (all : List TableDef) (k : Keeper) : Type 0 where
-  pub there : k.table < length all
-  pub first : IsFirst all (def_at all k.table)
+pub record KeepsFirst (defs : List TableDef) (k : Keeper) : Type 0 where
+  pub there : k.table < length defs
+  pub first : IsFirst defs (def_at defs k.table)
   pub source : k.source ≡ first.form.source
   pub group : k.group ≡ first.form.group
   pub value : k.value ≡ first.form.value
 
--- a table with a query is no base table
-is_first : (all : List TableDef) (def : TableDef) (query : Query) → IsTableOf all def → def.query ≡ Some query → IsFirst all def
-is_first all def query (inl base) has =
-    let stored = base.stored in
-    cc
-is_first all def query (inr first) has = first
+-- its query is that of its form
+pub query_of_form : (defs : List TableDef) (def : TableDef) (first : IsFirst defs def) → query_in def ≡ first_query first.form
+query_of_form defs def first = ap query_in first.is
 
-kept_here : (all : List TableDef) (def : TableDef) (table : ℕ) (query : Query) → IsTableOf all def → def.query ≡ Some query → table < length all → def_at all table ≡ def → IsKept all (keeper_by table query)
-kept_here all def table query is has lt same =
-    let first : IsFirst all (def_at all table) = is_first all (def_at all table) query (subst (IsTableOf all) (sym same) is) (ap (λ (d : TableDef). d.query) same ∙ has) in
-    let form : Some query ≡ Some (first_query first.form) = sym has ∙ ap (λ (d : TableDef). d.query) (sym same ∙ first.is) in
-    let one : query ≡ first_query first.form = cc in
+keeps_first : (defs : List TableDef) (id : ℕ) → IsKept defs id → KeepsFirst defs (keeper_by id (query_in (def_at defs id)))
+keeps_first defs id kept =
+    let is = query_of_form defs (def_at defs id) kept.first in
     record {
-      there = lt;
-      first = first;
-      source = ap (λ q. (keeper_by table q).source) one;
-      group = ap (λ q. (keeper_by table q).group) one;
-      value = ap (λ q. (keeper_by table q).value) one;
+      there = kept.there;
+      first = kept.first;
+      source = ap (λ q. (keeper_by id q).source) is;
+      group = ap (λ q. (keeper_by id q).group) is;
+      value = ap (λ q. (keeper_by id q).value) is;
     }
 
-kept_before : (all : List TableDef) (def : TableDef) (declared : Bool) (query : Option Query) (table : ℕ) (ks : List Keeper) → IsTableOf all def → def.query ≡ query → (table < length all) × (def_at all table ≡ def) → AllByRecursion (IsKept all) ks → AllByRecursion (IsKept all) (keeper_before declared query table ks)
-kept_before all def true (Some query) table ks is has stand rest = (kept_here all def table query is has stand.0 stand.1, rest)
-kept_before all def true None table ks is has stand rest = rest
-kept_before all def false query table ks is has stand rest = rest
+all_keep : (defs : List TableDef) (ids : List ℕ) → AllByRecursion (IsKept defs) ids
+    → AllByRecursion (KeepsFirst defs) (keepers_of defs ids)
+all_keep defs [] kept = tt
+all_keep defs (id ∷ ids) kept = (keeps_first defs id kept.0, all_keep defs ids kept.1)
 
-kept_from : (all : List TableDef) (table : ℕ) (defs : List TableDef) → AllByRecursion (IsTableOf all) defs → StandFrom all table defs → AllByRecursion (IsKept all) (keepers_from table defs)
-kept_from all table [] are stand = tt
-kept_from all table (def ∷ defs) are stand =
-    kept_before all def def.declared def.query table (keepers_from (table + 1) defs) are.0 refl (stand_first all table def defs stand) (kept_from all (table + 1) defs are.1 (stand_next all table def defs stand))
+pub all_kept : (f : Fixed) → IsBuilt f → AllByRecursion (KeepsFirst f.defs) (all_keepers f)
+all_kept f built = all_keep f.defs (kept_tables f.functions) built.kept
 
-pub all_kept : (defs : List TableDef) → AreTables defs → AllByRecursion (IsKept defs) (keepers_from 0 defs)
-all_kept defs are = kept_from defs 0 defs are.each (stand_all defs)
+pub kept_at : (f : Fixed) → IsBuilt f → (n : ℕ) → n < length f.rules → KeepsFirst f.defs (keeper_at f n)
+kept_at f built n lt =
+    all_at (KeepsFirst f.defs) (all_keepers f) n no_keeper (all_kept f built) (subst (λ l. n < l) (rules_count f built) lt)
 
-pub kept_at : (defs : List TableDef) → AreTables defs → (n : ℕ) → n < length (rules_from 0 defs) → IsKept defs (keeper_at defs n)
-kept_at defs are n lt = all_at (IsKept defs) (keepers_from 0 defs) n no_keeper (all_kept defs are) (subst (λ l. n < l) (rules_count defs) lt)
+pub kept_there : (f : Fixed) → IsBuilt f → (n : ℕ) → n < length f.rules → (keeper_at f n).table < length f.defs
+kept_there f built n lt = (kept_at f built n lt).there
 
-pub kept_there : (defs : List TableDef) → AreTables defs → (n : ℕ) → n < length (rules_from 0 defs) → (keeper_at defs n).table < length defs
-kept_there defs are n lt = (kept_at defs are n lt).there
-
-pub kept_first : (defs : List TableDef) → AreTables defs → (n : ℕ) → n < length (rules_from 0 defs) → IsFirst defs (kept_def defs n)
-kept_first defs are n lt = (kept_at defs are n lt).first
+pub kept_first : (f : Fixed) → IsBuilt f → (n : ℕ) → n < length f.rules → IsFirst f.defs (kept_def f n)
+kept_first f built n lt = (kept_at f built n lt).first
 
 -- ---- the rows of a transition table
 
@@ -434,30 +409,31 @@ fired_first defs def form function table before after cs reads fits =
 reads_form : (defs : List TableDef) (def : TableDef) (first : IsFirst defs def) → Reads first.form (def_at defs first.form.source).columns
 reads_form defs def first = (first.suits.group_there, first.suits.value_there)
 
-query_form : (defs : List TableDef) (def : TableDef) (query : Query) (first : IsFirst defs def) → def.query ≡ Some query → query ≡ first_query first.form
-query_form defs def query first has =
-    let form : Some query ≡ Some (first_query first.form) = sym has ∙ ap (λ (d : TableDef). d.query) first.is in
-    cc
+-- the rule of a table that is kept
+fired_kept : (defs : List TableDef) (id function : ℕ) (before after : List Keyed) (cs : List Change) → IsKept defs id
+    → AllByRecursion (ChangeFits defs) cs
+    → fired (keep_rule (def_at defs id) (query_in (def_at defs id)) function at_once) before after cs
+    ≡ bound_by (keeper_by id (query_in (def_at defs id))) cs
+fired_kept defs id function before after cs kept fits =
+    let def = def_at defs id in
+    subst (λ q. fired (keep_rule def q function at_once) before after cs ≡ bound_by (keeper_by id q) cs)
+    (sym (query_of_form defs def kept.first))
+    (fired_first defs def kept.first.form function id before after cs (reads_form defs def kept.first) fits)
 
-fired_one : (defs : List TableDef) (def : TableDef) (query : Query) (function table : ℕ) (before after : List Keyed) (cs : List Change) → IsFirst defs def → def.query ≡ Some query → AllByRecursion (ChangeFits defs) cs → fired (keep_rule def query function at_once) before after cs ≡ bound_by (keeper_by table query) cs
-fired_one defs def query function table before after cs first has fits =
-    subst (λ q. fired (keep_rule def q function at_once) before after cs ≡ bound_by (keeper_by table q) cs) (sym (query_form defs def query first has))
-    (fired_first defs def first.form function table before after cs (reads_form defs def first) fits)
-
-fired_before : (defs : List TableDef) (before after : List Keyed) (cs : List Change) (def : TableDef) (declared : Bool) (query : Option Query) (number first table : ℕ) (others : ℕ → List Rule) (ks : List Keeper) → AllByRecursion (ChangeFits defs) cs → IsTableOf defs def → def.query ≡ query → ((n next : ℕ) → fired_from n (others next) before after cs ≡ fired_by n ks cs) → fired_from number (rule_before declared query def first others) before after cs ≡ fired_by number (keeper_before declared query table ks) cs
-fired_before defs before after cs def true (Some query) number first table others ks fits is has rest =
-    ap₂ (with_fired number) (fired_one defs def query first table before after cs (is_first defs def query is has) has fits) (rest (number + 1) (first + 1))
-fired_before defs before after cs def true None number first table others ks fits is has rest = rest number first
-fired_before defs before after cs def false query number first table others ks fits is has rest = rest number first
-
-fired_suffix : (all : List TableDef) (before after : List Keyed) (cs : List Change) → AllByRecursion (ChangeFits all) cs → (defs : List TableDef) (number first table : ℕ) → AllByRecursion (IsTableOf all) defs → fired_from number (rules_from first defs) before after cs ≡ fired_by number (keepers_from table defs) cs
-fired_suffix all before after cs fits [] number first table are = refl
-fired_suffix all before after cs fits (def ∷ defs) number first table are =
-    fired_before all before after cs def def.declared def.query number first table (λ next. rules_from next defs) (keepers_from (table + 1) defs) fits are.0 refl (λ n next. fired_suffix all before after cs fits defs n next (table + 1) are.1)
+fired_all : (defs : List TableDef) (before after : List Keyed) (cs : List Change) → AllByRecursion (ChangeFits defs) cs
+    → (ids : List ℕ) (number first : ℕ) → AllByRecursion (IsKept defs) ids
+    → fired_from number (rules_of defs first ids) before after cs ≡ fired_by number (keepers_of defs ids) cs
+fired_all defs before after cs fits [] number first kept = refl
+fired_all defs before after cs fits (id ∷ ids) number first kept =
+    ap₂ (with_fired number) (fired_kept defs id first before after cs kept.0 fits)
+    (fired_all defs before after cs fits ids (number + 1) (first + 1) kept.1)
 
 -- the catalog's rules bind what its keepers make
-pub fired_is : (defs : List TableDef) → AreTables defs → (before after : List Keyed) (cs : List Change) → AllByRecursion (ChangeFits defs) cs → fired_from 0 (rules_from 0 defs) before after cs ≡ fired_by 0 (keepers_from 0 defs) cs
-fired_is defs are before after cs fits = fired_suffix defs before after cs fits defs 0 0 0 are.each
+pub fired_is : (f : Fixed) → IsBuilt f → (before after : List Keyed) (cs : List Change) → AllByRecursion (ChangeFits f.defs) cs
+    → fired_from 0 f.rules before after cs ≡ fired_by 0 (all_keepers f) cs
+fired_is f built before after cs fits =
+    ap (λ rules. fired_from 0 rules before after cs) built.rules
+    ∙ fired_all f.defs before after cs fits (kept_tables f.functions) 0 0 built.kept
 
 -- ---- what is summed is far from the ends of its type
 
@@ -481,13 +457,15 @@ small_shift columns k (Inserted row) small fits = small row fits
 small_shift columns k (Deleted row) small fits = small row fits
 small_shift columns k (Changed old new) small fits = (small old fits.0, small new fits.1)
 
-small_change : (defs : List TableDef) (k : Keeper) → IsKept defs k → (change : Change) → ChangeFits defs change → FitsKeeper k change
+small_change : (defs : List TableDef) (k : Keeper) → KeepsFirst defs k → (change : Change) → ChangeFits defs change → FitsKeeper k change
 small_change defs k kept change fits same =
     let columns = (def_at defs kept.first.form.source).columns in
     let small : (row : List Value) → FitsColumns columns row → IsSmallAt k row = λ row fit. subst (λ v. IsUnder (2 ^ 63) (number_of (column_of row v))) (sym kept.value) (small_column columns row kept.first.form.value fit kept.first.suits.value_there kept.first.suits.value_kind) in
     small_shift columns k change.shift small (subst (λ id. ShiftFits (def_at defs id).columns change.shift) (same ∙ kept.source) fits.fits)
 
 -- of changes of the tables' rows
-pub keepers_small : (defs : List TableDef) → AreTables defs → (cs : List Change) → AllByRecursion (ChangeFits defs) cs → AllByRecursion (KeepsSmall cs) (keepers_from 0 defs)
-keepers_small defs are cs fits =
-    all_weaker (IsKept defs) (KeepsSmall cs) (λ k kept. all_weaker (ChangeFits defs) (FitsKeeper k) (small_change defs k kept) cs fits) (keepers_from 0 defs) (all_kept defs are)
+pub keepers_small : (f : Fixed) → IsBuilt f → (cs : List Change) → AllByRecursion (ChangeFits f.defs) cs
+    → AllByRecursion (KeepsSmall cs) (all_keepers f)
+keepers_small f built cs fits =
+    all_weaker (KeepsFirst f.defs) (KeepsSmall cs)
+    (λ k kept. all_weaker (ChangeFits f.defs) (FitsKeeper k) (small_change f.defs k kept) cs fits) (all_keepers f) (all_kept f built)

@@ -51,16 +51,17 @@ use Rattle.strip_engine.specs.Calls.{Answers, Commits, HasContent}
 use Rattle.strip_engine.specs.Changes.{ChangeFits, bound_by, fired_by}
 use Rattle.strip_engine.specs.Deltas.{KeepsSmall}
 use Rattle.strip_engine.specs.Jobs.{CanFold, content_of}
-use Rattle.strip_engine.specs.Keepers.{keeper_at, keepers_from, kept_def, no_keeper}
+use Rattle.strip_setup.specs.Catalog.{Catalog}
+use Rattle.strip_engine.specs.Built.{IsBuilt}
+use Rattle.strip_engine.specs.Keepers.{all_keepers, keeper_at, kept_def, no_keeper}
 use Rattle.strip_engine.specs.Keeps.{Keeps, Stands, AtRest, InProgress}
 use Rattle.strip_engine.specs.Made.{IsMade}
 use Rattle.strip_engine.specs.Queue.{IsStarted, IsWaiting, NumbersRise, Queues, Stops, as_firing, first_of, no_bound, no_started, place_from, plain_id, running_of}
-use Rattle.strip_engine.specs.Setup.{AreTables}
 use Rattle.strip_engine.specs.Steps.{Performs, SameSession}
-use Rattle.strip_engine.specs.State.{State, fixed_by, with_entry}
+use Rattle.strip_engine.specs.State.{State, fixed_of, with_entry}
 use Rattle.strip_engine.specs.Undo.{all_restored, changes_of, IsLogged}
 use Rattle.strip_engine.proofs.BoundRows.{WaitingFolds, bound_within, changes_fit, plain_is, waiting_folds}
-use Rattle.strip_engine.proofs.KeeperRules.{IsKept, all_kept, fired_is, keepers_few, keepers_small, rules_at_once, rules_count, rules_plain}
+use Rattle.strip_engine.proofs.KeeperRules.{KeepsFirst, all_kept, fired_is, keepers_few, keepers_small, rules_at_once, rules_count, rules_plain}
 use Rattle.strip_engine.proofs.Overlay.{same_run}
 use Rattle.strip_engine.proofs.QueueKeeps.{NoneNext, first_due_then, none_next, queue_commit, queue_finish, queue_new, queue_start, rows_at_most, same_queue}
 use Rattle.strip_engine.proofs.QueueNumbers.{numbers_rise, place_found, place_none}
@@ -90,17 +91,16 @@ derived_empty n (def ∷ defs) =
 tables_at_first : (f : Fixed) → tables f [] ≡ beginning f
 tables_at_first f = derived_empty 0 f.defs
 
-pub keeps_new : (defs : List TableDef) (most : ℕ) (now : List Keyed) (entries : List Entry) (room : ℕ) (keepers : List Keeper) (queue : Queue) → AreTables defs → most ≤ 2 ^ 60 → keepers ≡ keepers_from 0 defs → now ≡ empty_tables defs → entries ≡ []
-    → queue.waiting.items ≡ [] → queue.running.items ≡ [] → (queue.bound ≡ 0) × (queue.rows ≡ 0) × (queue.jobs ≡ 0) → Keeps (fixed_by defs most) now entries room None 0 0 keepers queue
-keeps_new defs most now entries room keepers queue stored few keeping made none waiting runs counts =
-    let f = fixed_by defs most in
+pub keeps_new : (f : Fixed) (now : List Keyed) (entries : List Entry) (room : ℕ) (keepers : List Keeper) (queue : Queue) → IsBuilt f → f.most ≤ 2 ^ 60 → keepers ≡ all_keepers f → now ≡ empty_tables f.defs → entries ≡ []
+    → queue.waiting.items ≡ [] → queue.running.items ≡ [] → (queue.bound ≡ 0) × (queue.rows ≡ 0) × (queue.jobs ≡ 0) → Keeps f now entries room None 0 0 keepers queue
+keeps_new f now entries room keepers queue built few keeping made none waiting runs counts =
     let empty = ap reverse none in
     let no_job : length queue.running.items ≡ 0 = ap length runs in
     record {
-      tables_are = stored;
+      built = built;
       bounded = few;
       keeping = keeping;
-      defined = ap (map (λ (t : Keyed). t.def)) made ∙ defs_of_empty defs;
+      defined = ap (map (λ (t : Keyed). t.def)) made ∙ defs_of_empty f.defs;
       legal = subst (Legal f) (sym empty) tt;
       counted = sym (ap begins empty);
       timed = sym (ap latest empty);
@@ -161,7 +161,7 @@ keeps_begin f now entries grown room left session total moment keepers queue cal
     let newer : reverse grown ≡ Begin s.caller s.number s.holds.write s.holds.read ∷ past = ap reverse added ∙ newest entries (Begin s.caller s.number s.holds.write s.holds.read) in
     let rest = at_rest f now past room jobs session keeps.stands none in
     record {
-      tables_are = keeps.tables_are;
+      built = keeps.built;
       bounded = keeps.bounded;
       keeping = keeps.keeping;
       defined = keeps.defined;
@@ -225,7 +225,7 @@ keeps_enough f now entries grown room left session total moment keepers queue ot
     let older : reverse grown ≡ past = ap reverse same in
     let running_same : length other.running.items ≡ length queue.running.items = ap length queues.running in
     record {
-      tables_are = keeps.tables_are;
+      built = keeps.built;
       bounded = keeps.bounded;
       keeping = keeps.keeping;
       defined = keeps.defined;
@@ -243,7 +243,7 @@ keeps_room f now entries grown room left session total moment keepers queue othe
     let older : reverse grown ≡ past = ap reverse same in
     let running_same : length other.running.items ≡ length queue.running.items = ap length queues.running in
     record {
-      tables_are = keeps.tables_are;
+      built = keeps.built;
       bounded = keeps.bounded;
       keeping = keeps.keeping;
       defined = keeps.defined;
@@ -286,7 +286,7 @@ keeps_act f was_then entries room s total moment keepers queue act after new gro
     ∙ ap (λ cs. cs ++ (effect s.holds was_then act).changes) (sym was.changed)
     ∙ sym did.4 in
     record {
-      tables_are = keeps.tables_are;
+      built = keeps.built;
       bounded = keeps.bounded;
       keeping = keeps.keeping;
       defined = did.3.defined ∙ keeps.defined;
@@ -310,7 +310,7 @@ keeps_act f was_then entries room s total moment keepers queue act after new gro
     let past = reverse entries in
     let newer : reverse grown ≡ past = ap reverse did.1 in
     record {
-      tables_are = keeps.tables_are;
+      built = keeps.built;
       bounded = keeps.bounded;
       keeping = keeps.keeping;
       defined = ap (map (λ (t : Keyed). t.def)) did.0 ∙ keeps.defined;
@@ -337,10 +337,10 @@ pub none_left : (past : List Entry) (s : Session) → live past ≡ record { ses
 none_left past s only = ap (ended s.number) only ∙ ap (λ b. cond (not b) (record { session = s.number; caller = s.caller } ∷ []) []) (itself s.number)
 
 -- what the rules bind where the session in progress commits
-pub fired_here : (defs : List TableDef) (most : ℕ) (now : List Keyed) (entries : List Entry) (room : ℕ) (s : Session) (total moment : ℕ) (keepers : List Keeper) (queue : Queue) → Keeps (fixed_by defs most) now entries room (Some s) total moment keepers queue
-    → fired_at (fixed_by defs most) (reverse entries) s.number ≡ fired_by 0 keepers (changes_of s.log.items)
-fired_here defs most now entries room s total moment keepers queue keeps =
-    let f = fixed_by defs most in
+pub fired_here : (catalog : Catalog) (most : ℕ) (now : List Keyed) (entries : List Entry) (room : ℕ) (s : Session) (total moment : ℕ) (keepers : List Keeper) (queue : Queue) → Keeps (fixed_of catalog most) now entries room (Some s) total moment keepers queue
+    → fired_at (fixed_of catalog most) (reverse entries) s.number ≡ fired_by 0 keepers (changes_of s.log.items)
+fired_here catalog most now entries room s total moment keepers queue keeps =
+    let f = fixed_of catalog most in
     let past = reverse entries in
     let was = keeps.stands in
     let start = base (beginning f) past in
@@ -349,22 +349,22 @@ fired_here defs most now entries room s total moment keepers queue keeps =
     ap (λ ts. (run (holds past s.number) ts (acts past s.number)).changes) was.began
     ∙ (same_run (holds past s.number) (summed_up f.defs f.functions f.rules (happened f past)) start (acts past s.number)).changes in
     let logged : changes_of s.log.items ≡ ran.changes = was.changed ∙ same in
-    fired_is defs keeps.tables_are start ran.tables ran.changes (changes_fit f past s.number keeps.tables_are keeps.legal)
-    ∙ ap (fired_by 0 (keepers_from 0 defs)) (sym logged)
+    fired_is f keeps.built start ran.tables ran.changes (changes_fit f past s.number keeps.built keeps.legal)
+    ∙ ap (fired_by 0 (all_keepers f)) (sym logged)
     ∙ ap (λ ks. fired_by 0 ks (changes_of s.log.items)) (sym keeps.keeping)
 
 -- the changes of the session are small, and its rules few
-pub small_here : (defs : List TableDef) (most : ℕ) (now : List Keyed) (entries : List Entry) (room : ℕ) (s : Session) (total moment : ℕ) (keepers : List Keeper) (queue : Queue) → Keeps (fixed_by defs most) now entries room (Some s) total moment keepers queue
+pub small_here : (catalog : Catalog) (most : ℕ) (now : List Keyed) (entries : List Entry) (room : ℕ) (s : Session) (total moment : ℕ) (keepers : List Keeper) (queue : Queue) → Keeps (fixed_of catalog most) now entries room (Some s) total moment keepers queue
     → AllByRecursion (KeepsSmall (changes_of s.log.items)) keepers
-small_here defs most now entries room s total moment keepers queue keeps =
+small_here catalog most now entries room s total moment keepers queue keeps =
     subst (AllByRecursion (KeepsSmall (changes_of s.log.items))) (sym keeps.keeping)
-    (keepers_small defs keeps.tables_are (changes_of s.log.items) (all_map (ChangeFits defs) (λ (l : Logged). l.change) s.log.items keeps.stands.restores))
+    (keepers_small (fixed_of catalog most) keeps.built (changes_of s.log.items) (all_map (ChangeFits catalog.tables) (λ (l : Logged). l.change) s.log.items keeps.stands.restores))
 
-pub few_here : (defs : List TableDef) (most : ℕ) (now : List Keyed) (entries : List Entry) (room : ℕ) (session : Option Session) (total moment : ℕ) (keepers : List Keeper) (queue : Queue) → Keeps (fixed_by defs most) now entries room session total moment keepers queue
+pub few_here : (catalog : Catalog) (most : ℕ) (now : List Keyed) (entries : List Entry) (room : ℕ) (session : Option Session) (total moment : ℕ) (keepers : List Keeper) (queue : Queue) → Keeps (fixed_of catalog most) now entries room session total moment keepers queue
     → length keepers ≤ 64
-few_here defs most now entries room session total moment keepers queue keeps =
-    let few = keepers_few defs keeps.tables_are in
-    let same : length keepers ≡ length (keepers_from 0 defs) = ap length keeps.keeping in
+few_here catalog most now entries room session total moment keepers queue keeps =
+    let few = keepers_few (fixed_of catalog most) keeps.built in
+    let same : length keepers ≡ length (all_keepers (fixed_of catalog most)) = ap length keeps.keeping in
     omega arith
 
 -- so many rules at most bind rows
@@ -379,9 +379,9 @@ fires_most number (k ∷ ks) cs = with_most (bound_by k cs) (fires_most (number 
 pub fires_few : (keepers : List Keeper) (cs : List Change) → length keepers ≤ 64 → length (fired_by 0 keepers cs) ≤ 64
 fires_few keepers cs few = let most = fires_most 0 keepers cs in omega arith
 
-module _ (defs : List TableDef) (most : ℕ) (now : List Keyed) (entries grown : List Entry) (room left : ℕ) (s : Session) (total moment asked late : ℕ) (keepers : List Keeper) (queue other new : Queue) (binding : Binding) (keeps : Keeps (fixed_by defs most) now entries room (Some s) total moment keepers queue) (prepared : Prepares (fired_by 0 keepers (changes_of s.log.items)) queue.bound most other (Ok binding)) (same : SameQueue queue other) (merged : Merges other (length entries) late binding new) (when : late ≡ max (min asked (2 ^ 63)) moment) (added : grown ≡ entries ++ Commit s.caller s.number late ∷ []) where
+module _ (catalog : Catalog) (most : ℕ) (now : List Keyed) (entries grown : List Entry) (room left : ℕ) (s : Session) (total moment asked late : ℕ) (keepers : List Keeper) (queue other new : Queue) (binding : Binding) (keeps : Keeps (fixed_of catalog most) now entries room (Some s) total moment keepers queue) (prepared : Prepares (fired_by 0 keepers (changes_of s.log.items)) queue.bound most other (Ok binding)) (same : SameQueue queue other) (merged : Merges other (length entries) late binding new) (when : late ≡ max (min asked (2 ^ 63)) moment) (added : grown ≡ entries ++ Commit s.caller s.number late ∷ []) where
   abbrev fixed_here : Fixed
-  fixed_here = fixed_by defs most
+  fixed_here = fixed_of catalog most
 
   abbrev past_here : List Entry
   past_here = reverse entries
@@ -393,7 +393,7 @@ module _ (defs : List TableDef) (most : ℕ) (now : List Keyed) (entries grown :
   count_then : bound_count fixed_here (commit_entry ∷ past_here) ≡ queue.bound + row_count (fired_by 0 keepers (changes_of s.log.items))
   count_then =
       bound_count_commit fixed_here past_here s.caller s.number late
-      ∙ ap (λ fires. bound_count fixed_here past_here + row_count fires) (fired_here defs most now entries room s total moment keepers queue keeps)
+      ∙ ap (λ fires. bound_count fixed_here past_here + row_count fires) (fired_here catalog most now entries room s total moment keepers queue keeps)
       ∙ ap (λ n. n + row_count (fired_by 0 keepers (changes_of s.log.items))) (sym keeps.queued.bound_rows)
 
   commits_legally : Legal fixed_here (commit_entry ∷ past_here)
@@ -410,18 +410,18 @@ module _ (defs : List TableDef) (most : ℕ) (now : List Keyed) (entries grown :
       let was = keeps.stands in
       let timed = keeps.timed in
       let fires = fired_at fixed_here past_here s.number in
-      let here = fired_here defs most now entries room s total moment keepers queue keeps in
-      let course = course_of fixed_here (commit_entry ∷ past_here) (rules_plain defs 0) commits_legally in
+      let here = fired_here catalog most now entries room s total moment keepers queue keeps in
+      let course = course_of fixed_here (commit_entry ∷ past_here) (rules_plain fixed_here keeps.built) commits_legally in
       let placed : length entries ≡ length past_here = sym (length-reverse entries) in
       let merged_here : Merges other (length past_here) late binding new = subst (λ place. Merges other place late binding new) placed merged in
       let rows_here : binding.rows ≡ row_count fires = prepared.1 ∙ ap row_count (sym here) in
       let counted : bound_count fixed_here past_here + row_count fires ≡ bound_count fixed_here (commit_entry ∷ past_here) = sym (bound_count_commit fixed_here past_here s.caller s.number late) in
       let queues = same_queue fixed_here.rules (happened fixed_here past_here) (jobs past_here) (bound_count fixed_here past_here) (job_count past_here) queue other same keeps.queued in
-      let after = queue_commit fixed_here.rules (happened fixed_here past_here) (jobs past_here) (bound_count fixed_here past_here) (job_count past_here) (length past_here) late fires binding other new course (jobs_run fixed_here past_here (rules_plain defs 0) keeps.legal) (prepared.0 ∙ sym here) rows_here merged_here queues in
+      let after = queue_commit fixed_here.rules (happened fixed_here past_here) (jobs past_here) (bound_count fixed_here past_here) (job_count past_here) (length past_here) late fires binding other new course (jobs_run fixed_here past_here (rules_plain fixed_here keeps.built) keeps.legal) (prepared.0 ∙ sym here) rows_here merged_here queues in
       let running_same : length new.running.items ≡ length queue.running.items = ap length (merged.running ∙ same.running) in
       let enough = was.room_to_end in
       record {
-        tables_are = keeps.tables_are;
+        built = keeps.built;
         bounded = keeps.bounded;
         keeping = keeps.keeping;
         defined = keeps.defined;
@@ -449,7 +449,7 @@ keeps_undo f now new entries grown room left s total moment keepers queue keeps 
     let newer : reverse grown ≡ Undo s.caller s.number ∷ past = ap reverse added ∙ newest entries (Undo s.caller s.number) in
     let enough = was.room_to_end in
     record {
-      tables_are = keeps.tables_are;
+      built = keeps.built;
       bounded = keeps.bounded;
       keeping = keeps.keeping;
       defined = defs ∙ keeps.defined;
@@ -468,9 +468,9 @@ session_found past s only =
     ap (find (λ (l : Live). l.session == s.number)) only
     ∙ ap (λ b. cond b (Some (record { session = s.number; caller = s.caller })) None) (itself s.number)
 
-module _ (defs : List TableDef) (most : ℕ) (now : List Keyed) (entries : List Entry) (room : ℕ) (s : Session) (total moment session asked : ℕ) (keepers : List Keeper) (queue : Queue) (keeps : Keeps (fixed_by defs most) now entries room (Some s) total moment keepers queue) (same : session ≡ s.number) where
+module _ (catalog : Catalog) (most : ℕ) (now : List Keyed) (entries : List Entry) (room : ℕ) (s : Session) (total moment session asked : ℕ) (keepers : List Keeper) (queue : Queue) (keeps : Keeps (fixed_of catalog most) now entries room (Some s) total moment keepers queue) (same : session ≡ s.number) where
   abbrev f' : Fixed
-  f' = fixed_by defs most
+  f' = fixed_of catalog most
 
   abbrev past' : List Entry
   past' = reverse entries
@@ -484,29 +484,29 @@ module _ (defs : List TableDef) (most : ℕ) (now : List Keyed) (entries : List 
   -- what is said, by the rows bound then
   commit_said : says f' past' (to_commit session asked) ≡ said_within f' fires committed (queue.bound + row_count fires)
   commit_said =
-      let here = fired_here defs most now entries room s total moment keepers queue keeps in
+      let here = fired_here catalog most now entries room s total moment keepers queue keeps in
       ap (λ n. says f' past' (to_commit n asked)) same
       ∙ ap (said_commit f' past' s.number asked) (session_found past' s keeps.stands.only)
       ∙ ap (said_within f' (fired_at f' past' s.number) committed) (bound_count_commit f' past' s.caller s.number (said_of.late past' asked))
       ∙ ap₂ (λ fs n. said_within f' fs committed (n + row_count fs)) here (sym keeps.queued.bound_rows)
 
   pub commit_answers : (late : ℕ) (grown : List Entry) → late ≡ max (min asked (2 ^ 63)) moment → grown ≡ entries ++ Commit s.caller session late ∷ [] → queue.bound + row_count fires ≤ most
-      → Answers (record { defs = defs; bound_rows = most; history = entries }) (to_commit session asked) (fired (length fires) (row_count fires)) (record { defs = defs; bound_rows = most; history = grown })
+      → Answers (record { catalog = catalog; bound_rows = most; history = entries }) (to_commit session asked) (fired (length fires) (row_count fires)) (record { catalog = catalog; bound_rows = most; history = grown })
   commit_answers late grown when added within =
-      let old : State = record { defs = defs; bound_rows = most; history = entries } in
+      let old : State = record { catalog = catalog; bound_rows = most; history = entries } in
       let moment_said : said_of.late past' asked ≡ late = ap (max (min asked (2 ^ 63))) (sym keeps.timed) ∙ sym when in
       let entry : committed ≡ Commit s.caller session late = ap (λ m. Commit s.caller s.number m) moment_said ∙ ap (λ n. Commit s.caller n late) (sym same) in
       let said : says f' past' (to_commit session asked) ≡ record { answer = fired (length fires) (row_count fires); entry = Some committed } =
       commit_said ∙ ap (λ b. cond b (refused (spent (queue.bound + row_count fires))) (record { answer = fired (length fires) (row_count fires); entry = Some committed })) (le-ltb most (queue.bound + row_count fires) within) in
       record {
         answered = ap (λ (x : Said). x.answer) said;
-        added = ap (λ es. record { defs = defs; bound_rows = most; history = es }) (added ∙ ap (λ e. entries ++ e ∷ []) (sym entry)) ∙ sym (ap (λ (x : Said). with_entry old x.entry) said);
+        added = ap (λ es. record { catalog = catalog; bound_rows = most; history = es }) (added ∙ ap (λ e. entries ++ e ∷ []) (sym entry)) ∙ sym (ap (λ (x : Said). with_entry old x.entry) said);
       }
 
   pub spent_answers : (passed : ℕ) → passed ≡ queue.bound + row_count fires → most < passed
-      → Answers (record { defs = defs; bound_rows = most; history = entries }) (to_commit session asked) (spent passed) (record { defs = defs; bound_rows = most; history = entries })
+      → Answers (record { catalog = catalog; bound_rows = most; history = entries }) (to_commit session asked) (spent passed) (record { catalog = catalog; bound_rows = most; history = entries })
   spent_answers passed is past_most =
-      let old : State = record { defs = defs; bound_rows = most; history = entries } in
+      let old : State = record { catalog = catalog; bound_rows = most; history = entries } in
       let said : says f' past' (to_commit session asked) ≡ refused (spent passed) =
       commit_said ∙ ap (said_within f' fires committed) (sym is)
       ∙ ap (λ b. cond b (refused (spent passed)) (record { answer = fired (length fires) (row_count fires); entry = Some committed })) (lt-ltb most passed past_most) in
@@ -517,7 +517,7 @@ module _ (defs : List TableDef) (most : ℕ) (now : List Keyed) (entries : List 
 
   -- a refusal says so, and has changed nothing
   pub commit_refused : (other : Queue) (error : CommitError) → Prepares fires queue.bound most other (Err error)
-      → Commits (record { defs = defs; bound_rows = most; history = entries }) session asked (record { defs = defs; bound_rows = most; history = entries }) (Err error)
+      → Commits (record { catalog = catalog; bound_rows = most; history = entries }) session asked (record { catalog = catalog; bound_rows = most; history = entries }) (Err error)
   commit_refused other (commit_error.NoSession none) refusal = absurd refusal
   commit_refused other (commit_error.Spent passed) refusal = spent_answers passed refusal.0 refusal.1
   commit_refused other commit_error.Memory refusal = refl
@@ -533,26 +533,26 @@ not_found past s session only other =
 abbrev refused_with : CommitError → Result Binding CommitError
 refused_with error = Err error
 
-missing_for : (defs : List TableDef) (most : ℕ) (entries : List Entry) (session asked : ℕ) (error : CommitError) → live_session (reverse entries) session ≡ None → refused_with error ≡ Err (commit_error.NoSession session)
-    → Commits (record { defs = defs; bound_rows = most; history = entries }) session asked (record { defs = defs; bound_rows = most; history = entries }) (Err error)
-missing_for defs most entries session asked error none is =
-    let old : State = record { defs = defs; bound_rows = most; history = entries } in
+missing_for : (catalog : Catalog) (most : ℕ) (entries : List Entry) (session asked : ℕ) (error : CommitError) → live_session (reverse entries) session ≡ None → refused_with error ≡ Err (commit_error.NoSession session)
+    → Commits (record { catalog = catalog; bound_rows = most; history = entries }) session asked (record { catalog = catalog; bound_rows = most; history = entries }) (Err error)
+missing_for catalog most entries session asked error none is =
+    let old : State = record { catalog = catalog; bound_rows = most; history = entries } in
     let same : error ≡ commit_error.NoSession session = cc in
-    let said = missing_said (fixed_by defs most) (reverse entries) session asked none in
+    let said = missing_said (fixed_of catalog most) (reverse entries) session asked none in
     subst (λ e. Commits old session asked old (Err e)) (sym same) (record {
       answered = ap (λ (x : Said). x.answer) said;
       added = sym (ap (λ (x : Said). with_entry old x.entry) said);
     })
 
 -- whatever session there is: a refusal says so
-pub refused_for : (defs : List TableDef) (most : ℕ) (now : List Keyed) (entries : List Entry) (room : ℕ) (o : Option Session) (total moment session asked : ℕ) (keepers : List Keeper) (queue other : Queue) (error : CommitError) → Keeps (fixed_by defs most) now entries room o total moment keepers queue
-    → PreparesFor o session keepers queue.bound most other (Err error) → Commits (record { defs = defs; bound_rows = most; history = entries }) session asked (record { defs = defs; bound_rows = most; history = entries }) (Err error)
-refused_for defs most now entries room None total moment session asked keepers queue other error keeps is =
-    missing_for defs most entries session asked error (ap (find (λ (l : Live). l.session == session)) keeps.stands.none) is
-refused_for defs most now entries room (Some s) total moment session asked keepers queue other error keeps (inl here) =
-    commit_refused defs most now entries room s total moment session asked keepers queue keeps (sym here.0) other error here.1
-refused_for defs most now entries room (Some s) total moment session asked keepers queue other error keeps (inr missing) =
-    missing_for defs most entries session asked error (not_found (reverse entries) s session keeps.stands.only missing.0) missing.1
+pub refused_for : (catalog : Catalog) (most : ℕ) (now : List Keyed) (entries : List Entry) (room : ℕ) (o : Option Session) (total moment session asked : ℕ) (keepers : List Keeper) (queue other : Queue) (error : CommitError) → Keeps (fixed_of catalog most) now entries room o total moment keepers queue
+    → PreparesFor o session keepers queue.bound most other (Err error) → Commits (record { catalog = catalog; bound_rows = most; history = entries }) session asked (record { catalog = catalog; bound_rows = most; history = entries }) (Err error)
+refused_for catalog most now entries room None total moment session asked keepers queue other error keeps is =
+    missing_for catalog most entries session asked error (ap (find (λ (l : Live). l.session == session)) keeps.stands.none) is
+refused_for catalog most now entries room (Some s) total moment session asked keepers queue other error keeps (inl here) =
+    commit_refused catalog most now entries room s total moment session asked keepers queue keeps (sym here.0) other error here.1
+refused_for catalog most now entries room (Some s) total moment session asked keepers queue other error keeps (inr missing) =
+    missing_for catalog most entries session asked error (not_found (reverse entries) s session keeps.stands.only missing.0) missing.1
 
 -- what was prepared was so for the session in progress
 pub prepared_one : (s : Session) (session : ℕ) (keepers : List Keeper) (bound most : ℕ) (other : Queue) (binding : Binding) → PreparesFor (Some s) session keepers bound most other (Ok binding)
@@ -561,10 +561,10 @@ prepared_one s session keepers bound most other binding (inl here) = here
 prepared_one s session keepers bound most other binding (inr missing) = let no = missing.1 in absurd (cc)
 
 -- the changes of the session that may be there are small
-pub small_for : (defs : List TableDef) (most : ℕ) (now : List Keyed) (entries : List Entry) (room : ℕ) (o : Option Session) (total moment : ℕ) (keepers : List Keeper) (queue : Queue) → Keeps (fixed_by defs most) now entries room o total moment keepers queue
+pub small_for : (catalog : Catalog) (most : ℕ) (now : List Keyed) (entries : List Entry) (room : ℕ) (o : Option Session) (total moment : ℕ) (keepers : List Keeper) (queue : Queue) → Keeps (fixed_of catalog most) now entries room o total moment keepers queue
     → IfSome o (λ (s : Session). AllByRecursion (KeepsSmall (changes_of s.log.items)) keepers)
-small_for defs most now entries room None total moment keepers queue keeps = tt
-small_for defs most now entries room (Some s) total moment keepers queue keeps = small_here defs most now entries room s total moment keepers queue keeps
+small_for catalog most now entries room None total moment keepers queue keeps = tt
+small_for catalog most now entries room (Some s) total moment keepers queue keeps = small_here catalog most now entries room s total moment keepers queue keeps
 
 -- tasks whose parts are the same
 abbrev task_by : ℕ → ℕ → ActionId → ℕ → ℕ → List Content → Task
@@ -605,9 +605,9 @@ job_runs f past number job plain legal e =
 
 -- ---- a start
 
-module _ (defs : List TableDef) (most : ℕ) (now : List Keyed) (entries : List Entry) (room : ℕ) (session : Option Session) (total moment caller asked late : ℕ) (keepers : List Keeper) (queue : Queue) (keeps : Keeps (fixed_by defs most) now entries room session total moment keepers queue) (when : late ≡ max (min asked (2 ^ 63)) moment) where
+module _ (catalog : Catalog) (most : ℕ) (now : List Keyed) (entries : List Entry) (room : ℕ) (session : Option Session) (total moment caller asked late : ℕ) (keepers : List Keeper) (queue : Queue) (keeps : Keeps (fixed_of catalog most) now entries room session total moment keepers queue) (when : late ≡ max (min asked (2 ^ 63)) moment) where
   abbrev fixed' : Fixed
-  fixed' = fixed_by defs most
+  fixed' = fixed_of catalog most
 
   abbrev before : List Entry
   before = reverse entries
@@ -616,12 +616,12 @@ module _ (defs : List TableDef) (most : ℕ) (now : List Keyed) (entries : List 
   late_said = ap (max (min asked (2 ^ 63))) (sym keeps.timed) ∙ sym when
 
   course_before : IsPlainCourse fixed'.rules (happened fixed' before)
-  course_before = course_of fixed' before (rules_plain defs 0) keeps.legal
+  course_before = course_of fixed' before (rules_plain fixed' keeps.built) keeps.legal
 
   -- where nothing waits, none is pending
-  pub empty_answers : queue.waiting.items ≡ [] → Answers (record { defs = defs; bound_rows = most; history = entries }) (to_start caller asked) none_pending (record { defs = defs; bound_rows = most; history = entries })
+  pub empty_answers : queue.waiting.items ≡ [] → Answers (record { catalog = catalog; bound_rows = most; history = entries }) (to_start caller asked) none_pending (record { catalog = catalog; bound_rows = most; history = entries })
   empty_answers none =
-      let old : State = record { defs = defs; bound_rows = most; history = entries } in
+      let old : State = record { catalog = catalog; bound_rows = most; history = entries } in
       let said : says fixed' before (to_start caller asked) ≡ refused none_pending = none_said fixed' before caller (said_of.late before asked) (none_next fixed'.rules (happened fixed' before) (jobs before) (bound_count fixed' before) (job_count before) (said_of.late before asked) queue none keeps.queued) in
       record {
         answered = ap (λ (x : Said). x.answer) said;
@@ -636,10 +636,10 @@ module _ (defs : List TableDef) (most : ℕ) (now : List Keyed) (entries : List 
     action = plain_id first.place first.fired.number
 
     action_is : plain_action fixed'.rules (as_firing first) ≡ action
-    action_is = plain_is defs (as_firing first) waits_here.1
+    action_is = plain_is fixed' keeps.built (as_firing first) waits_here.1
 
     abbrev folded_def : TableDef
-    folded_def = kept_def defs first.fired.number
+    folded_def = kept_def fixed' first.fired.number
 
     few_rows : bound_count fixed' before ≤ 2 ^ 60
     few_rows =
@@ -648,7 +648,7 @@ module _ (defs : List TableDef) (most : ℕ) (now : List Keyed) (entries : List 
         omega arith
 
     folds : WaitingFolds fixed' before first
-    folds = waiting_folds defs keeps.tables_are most before keeps.legal few_rows first waits_here
+    folds = waiting_folds fixed' keeps.built before keeps.legal few_rows first waits_here
 
     pub can_start_fold : CanFold folded_def first.fired.rows
     can_start_fold = folds.can
@@ -657,13 +657,13 @@ module _ (defs : List TableDef) (most : ℕ) (now : List Keyed) (entries : List 
     next_here =
         let timed = keeps.timed in
         let by_then : latest before ≤ late = omega arith in
-        first_due_then fixed'.rules (happened fixed' before) (jobs before) (bound_count fixed' before) (job_count before) first others late queue course_before (rules_at_once defs 0) split (binds_then fixed' before late by_then) keeps.queued
+        first_due_then fixed'.rules (happened fixed' before) (jobs before) (bound_count fixed' before) (job_count before) first others late queue course_before (rules_at_once fixed' keeps.built) split (binds_then fixed' before late by_then) keeps.queued
 
     first_action_is : (first_of fixed'.rules first).action ≡ action
-    first_action_is = first_of_action fixed'.rules (rules_plain defs 0) first ∙ action_is
+    first_action_is = first_of_action fixed'.rules (rules_plain fixed' keeps.built) first ∙ action_is
 
     first_due_is : due_of fixed'.rules (first_of fixed'.rules first) ≡ first.moment
-    first_due_is = first_of_due fixed'.rules (rules_at_once defs 0) first
+    first_due_is = first_of_due fixed'.rules (rules_at_once fixed' keeps.built) first
 
     rows_here : rows_of fixed'.rules (happened fixed' before) action ≡ firing_rows fixed'.rules (as_firing first)
     rows_here = subst (λ a. rows_of fixed'.rules (happened fixed' before) a ≡ firing_rows fixed'.rules (as_firing first)) action_is waits_here.0
@@ -695,14 +695,14 @@ module _ (defs : List TableDef) (most : ℕ) (now : List Keyed) (entries : List 
         → Keeps fixed' now grown left session total late keepers new
     keeps_start grown left def new was kept job starts is grows leaves enough =
         let newer : reverse grown ≡ started_entry ∷ before = ap reverse (grows ∙ starts.entries ∙ ap (λ es. es ++ started_entry ∷ []) is) ∙ newest entries started_entry in
-        let course = course_of fixed' (started_entry ∷ before) (rules_plain defs 0) starts_legally in
+        let course = course_of fixed' (started_entry ∷ before) (rules_plain fixed' keeps.built) starts_legally in
         let after = queue_start fixed'.rules (happened fixed' before) (jobs before) (bound_count fixed' before) (job_count before) (queue.jobs + 1) caller late def first others queue new was kept job course (ap (λ n. n + 1) keeps.queued.starts) split action_is starts keeps.queued in
         let same_tables = start_tables fixed' before caller (queue.jobs + 1) late action first.moment (length first.fired.rows) course.course in
         let one_more_job : length new.running.items ≡ length queue.running.items + 1 = ap length starts.running ∙ length-append queue.running.items (record { number = queue.jobs + 1; caller = caller; place = first.place; rule = first.fired.number; rows = length first.fired.rows } ∷ []) in
         let timed = keeps.timed in
         let spent = starts.room in
         record {
-          tables_are = keeps.tables_are;
+          built = keeps.built;
           bounded = keeps.bounded;
           keeping = keeps.keeping;
           defined = keeps.defined;
@@ -714,16 +714,16 @@ module _ (defs : List TableDef) (most : ℕ) (now : List Keyed) (entries : List 
         }
 
     pub start_answers : (grown : List Entry) (job : Task) → grown ≡ entries ++ started_entry ∷ [] → job ≡ record { number = queue.jobs + 1; caller = caller; action = action; due = first.moment; rows = length first.fired.rows; content = content_of folded_def first.fired.rows }
-        → Answers (record { defs = defs; bound_rows = most; history = entries }) (to_start caller asked) (taken job) (record { defs = defs; bound_rows = most; history = grown })
+        → Answers (record { catalog = catalog; bound_rows = most; history = entries }) (to_start caller asked) (taken job) (record { catalog = catalog; bound_rows = most; history = grown })
     start_answers grown job added is =
-        let old : State = record { defs = defs; bound_rows = most; history = entries } in
+        let old : State = record { catalog = catalog; bound_rows = most; history = entries } in
         let row = first_of fixed'.rules first in
-        let content : contents defs (get_or fixed'.functions row.action.function no_function) (rows_of fixed'.rules (happened fixed' before) row.action) ≡ content_of folded_def first.fired.rows =
-        ap (λ a. contents defs (get_or fixed'.functions a.function no_function) (rows_of fixed'.rules (happened fixed' before) a)) (first_action_is ∙ sym action_is) ∙ folds.content in
+        let content : contents catalog.tables (get_or fixed'.functions row.action.function no_function) (rows_of fixed'.rules (happened fixed' before) row.action) ≡ content_of folded_def first.fired.rows =
+        ap (λ a. contents catalog.tables (get_or fixed'.functions a.function no_function) (rows_of fixed'.rules (happened fixed' before) a)) (first_action_is ∙ sym action_is) ∙ folds.content in
         let count : length (rows_of fixed'.rules (happened fixed' before) row.action) ≡ length first.fired.rows = ap (λ a. length (rows_of fixed'.rules (happened fixed' before) a)) first_action_is ∙ count_here in
         let number : job_count before + 1 ≡ queue.jobs + 1 = ap (λ n. n + 1) (sym keeps.queued.starts) in
         let task : task_of fixed' before caller row ≡ job =
-        task_alike (job_count before + 1) (queue.jobs + 1) caller row.action action (due_of fixed'.rules row) first.moment (length (rows_of fixed'.rules (happened fixed' before) row.action)) (length first.fired.rows) (contents defs (get_or fixed'.functions row.action.function no_function) (rows_of fixed'.rules (happened fixed' before) row.action)) (content_of folded_def first.fired.rows) number first_action_is first_due_is count content
+        task_alike (job_count before + 1) (queue.jobs + 1) caller row.action action (due_of fixed'.rules row) first.moment (length (rows_of fixed'.rules (happened fixed' before) row.action)) (length first.fired.rows) (contents catalog.tables (get_or fixed'.functions row.action.function no_function) (rows_of fixed'.rules (happened fixed' before) row.action)) (content_of folded_def first.fired.rows) number first_action_is first_due_is count content
         ∙ sym is in
         let said : says fixed' before (to_start caller asked) ≡ record { answer = taken job; entry = Some started_entry } =
         ap (λ m. said_start fixed' before caller m (next fixed'.rules (happened fixed' before) m)) late_said
@@ -732,14 +732,14 @@ module _ (defs : List TableDef) (most : ℕ) (now : List Keyed) (entries : List 
         ∙ ap (λ (t : Task). record { answer = taken job; entry = Some (start_entry late t) }) is in
         record {
           answered = ap (λ (x : Said). x.answer) said;
-          added = ap (λ es. record { defs = defs; bound_rows = most; history = es }) added ∙ sym (ap (λ (x : Said). with_entry old x.entry) said);
+          added = ap (λ es. record { catalog = catalog; bound_rows = most; history = es }) added ∙ sym (ap (λ (x : Said). with_entry old x.entry) said);
         }
 
 -- ---- a finish
 
-module _ (defs : List TableDef) (most : ℕ) (now : List Keyed) (entries : List Entry) (room : ℕ) (session : Option Session) (total moment : ℕ) (keepers : List Keeper) (queue : Queue) (keeps : Keeps (fixed_by defs most) now entries room session total moment keepers queue) where
+module _ (catalog : Catalog) (most : ℕ) (now : List Keyed) (entries : List Entry) (room : ℕ) (session : Option Session) (total moment : ℕ) (keepers : List Keeper) (queue : Queue) (keeps : Keeps (fixed_of catalog most) now entries room session total moment keepers queue) where
   abbrev fixed'' : Fixed
-  fixed'' = fixed_by defs most
+  fixed'' = fixed_of catalog most
 
   abbrev before' : List Entry
   before' = reverse entries
@@ -748,9 +748,9 @@ module _ (defs : List TableDef) (most : ℕ) (now : List Keyed) (entries : List 
   rise_here = numbers_rise (jobs before') queue.running.items (jobs_fall fixed'' before' keeps.legal) keeps.queued.running
 
   -- where the number isn't running
-  pub not_running_answers : (number : ℕ) → place_from 0 queue.running.items number ≡ None → Answers (record { defs = defs; bound_rows = most; history = entries }) (to_finish number) (not_running number) (record { defs = defs; bound_rows = most; history = entries })
+  pub not_running_answers : (number : ℕ) → place_from 0 queue.running.items number ≡ None → Answers (record { catalog = catalog; bound_rows = most; history = entries }) (to_finish number) (not_running number) (record { catalog = catalog; bound_rows = most; history = entries })
   not_running_answers number none =
-      let old : State = record { defs = defs; bound_rows = most; history = entries } in
+      let old : State = record { catalog = catalog; bound_rows = most; history = entries } in
       let said : says fixed'' before' (to_finish number) ≡ refused (not_running number) = ap (said_finish number) (place_none (jobs before') queue.running.items number keeps.queued.running none) in
       record {
         answered = ap (λ (x : Said). x.answer) said;
@@ -778,33 +778,33 @@ module _ (defs : List TableDef) (most : ℕ) (now : List Keyed) (entries : List 
     pub keeper_there : s.rule < length keepers
     keeper_there =
         let known = rule_there in
-        let counts = rules_count defs in
-        let same : length keepers ≡ length (keepers_from 0 defs) = ap length keeps.keeping in
+        let counts = rules_count fixed'' keeps.built in
+        let same : length keepers ≡ length (all_keepers fixed'') = ap length keeps.keeping in
         omega arith
 
     abbrev table : ℕ
     table = (get_or keepers s.rule no_keeper).table
 
-    table_is_kept : table ≡ (keeper_at defs s.rule).table
+    table_is_kept : table ≡ (keeper_at fixed'' s.rule).table
     table_is_kept = ap (λ ks. (get_or ks s.rule no_keeper).table) keeps.keeping
 
     runs_here : IsIn fixed''.rules (happened fixed'' before') (plain_id s.place s.rule) (running number)
     runs_here =
-        let found_one = job_runs fixed'' before' number (running_of s) (rules_plain defs 0) keeps.legal found.0 in
+        let found_one = job_runs fixed'' before' number (running_of s) (rules_plain fixed'' keeps.built) keeps.legal found.0 in
         subst (λ n. IsIn fixed''.rules (happened fixed'' before') (plain_id s.place s.rule) (running n)) found.2 found_one
 
     module _ (job : Task) (is_number : job.number ≡ number) (content : HasContent fixed'' before' job) (totals : List (List Value)) (sums : job.content ≡ Totals totals ∷ []) where
-      content_here : contents defs (get_or fixed''.functions s.rule no_function) (rows_of fixed''.rules (happened fixed'' before') (plain_id s.place s.rule)) ≡ Totals totals ∷ []
+      content_here : contents catalog.tables (get_or fixed''.functions s.rule no_function) (rows_of fixed''.rules (happened fixed'' before') (plain_id s.place s.rule)) ≡ Totals totals ∷ []
       content_here =
           let found_job : job_of before' job.number ≡ Some (running_of s) = ap (job_of before') is_number ∙ found.0 in
-          let has = subst (λ o. IfSome o (λ (j : Running). job.content ≡ contents defs (get_or fixed''.functions j.action.function no_function) (rows_of fixed''.rules (happened fixed'' before') j.action))) found_job content in
+          let has = subst (λ o. IfSome o (λ (j : Running). job.content ≡ contents catalog.tables (get_or fixed''.functions j.action.function no_function) (rows_of fixed''.rules (happened fixed'' before') j.action))) found_job content in
           sym has ∙ sums
 
-      adds : FinishAdds fixed'' before' s.caller number (keeper_at defs s.rule).table totals
+      adds : FinishAdds fixed'' before' s.caller number (keeper_at fixed'' s.rule).table totals
       adds =
           let within = bound_within fixed'' before' keeps.legal in
           let bounded = keeps.bounded in
-          finish_adds defs keeps.tables_are most before' keeps.legal (course_of fixed'' before' (rules_plain defs 0) keeps.legal).course s.caller number (plain_id s.place s.rule) runs_here (omega arith) totals content_here
+          finish_adds fixed'' keeps.built before' keeps.legal (course_of fixed'' before' (rules_plain fixed'' keeps.built) keeps.legal).course s.caller number (plain_id s.place s.rule) runs_here (omega arith) totals content_here
 
       module _ (alone : live before' ≡ []) where
         rest : AtRest fixed'' now before' room (length queue.running.items)
@@ -814,7 +814,7 @@ module _ (defs : List TableDef) (most : ℕ) (now : List Keyed) (entries : List 
         table_there =
             let there = adds.there in
             let same = table_is_kept in
-            let long : length now ≡ length defs = sym (length-map now (λ (t : Keyed). t.def)) ∙ ap length keeps.defined in
+            let long : length now ≡ length catalog.tables = sym (length-map now (λ (t : Keyed). t.def)) ∙ ap length keeps.defined in
             omega arith
 
         pub can_add_here : CanAdd (table_at now table) totals
@@ -828,9 +828,9 @@ module _ (defs : List TableDef) (most : ℕ) (now : List Keyed) (entries : List 
             let fewer : length after.running.items + 1 ≡ length queue.running.items = ap (λ xs. length xs + 1) stops.running ∙ length_removed queue.running.items at at_there in
             let enough = rest.room_to_finish in
             let after_tables : new ≡ tables fixed'' (Finish s.caller number ∷ before') = made ∙ ap₂ (λ ts id. with_sums ts id totals) rest.committed table_is_kept ∙ adds.after in
-            let defs_same : map (λ (t : Keyed). t.def) new ≡ defs = ap (map (λ (t : Keyed). t.def)) made ∙ defs_kept now table (applied (table_at now table).def (table_at now table).rows totals) ∙ keeps.defined in
+            let defs_same : map (λ (t : Keyed). t.def) new ≡ catalog.tables = ap (map (λ (t : Keyed). t.def)) made ∙ defs_kept now table (applied (table_at now table).def (table_at now table).rows totals) ∙ keeps.defined in
             record {
-              tables_are = keeps.tables_are;
+              built = keeps.built;
               bounded = keeps.bounded;
               keeping = keeps.keeping;
               defined = defs_same;
@@ -841,14 +841,14 @@ module _ (defs : List TableDef) (most : ℕ) (now : List Keyed) (entries : List 
               stands = rw newer (stands_alone fixed'' new (Finish s.caller number ∷ before') left (length after.running.items) now before' room (length queue.running.items) session keeps.stands alone (record { none = alone; committed = after_tables; room_to_finish = omega arith }));
             }
 
-        pub finish_answers : (grown : List Entry) (started : Started) → started ≡ s → grown ≡ entries ++ Finish started.caller started.number ∷ [] → Answers (record { defs = defs; bound_rows = most; history = entries }) (to_finish number) said_of.done (record { defs = defs; bound_rows = most; history = grown })
+        pub finish_answers : (grown : List Entry) (started : Started) → started ≡ s → grown ≡ entries ++ Finish started.caller started.number ∷ [] → Answers (record { catalog = catalog; bound_rows = most; history = entries }) (to_finish number) said_of.done (record { catalog = catalog; bound_rows = most; history = grown })
         finish_answers grown started is_started added =
-            let old : State = record { defs = defs; bound_rows = most; history = entries } in
+            let old : State = record { catalog = catalog; bound_rows = most; history = entries } in
             let entry : Finish started.caller started.number ≡ Finish s.caller number = ap (λ (one : Started). Finish one.caller one.number) is_started ∙ ap (Finish s.caller) found.2 in
             let said : says fixed'' before' (to_finish number) ≡ record { answer = said_of.done; entry = Some (Finish s.caller number) } = ap (said_finish number) found.0 in
             record {
               answered = ap (λ (x : Said). x.answer) said;
-              added = ap (λ es. record { defs = defs; bound_rows = most; history = es }) (added ∙ ap (λ e. entries ++ e ∷ []) entry) ∙ sym (ap (λ (x : Said). with_entry old x.entry) said);
+              added = ap (λ es. record { catalog = catalog; bound_rows = most; history = es }) (added ∙ ap (λ e. entries ++ e ∷ []) entry) ∙ sym (ap (λ (x : Said). with_entry old x.entry) said);
             }
 
 -- no more jobs than entries were started
@@ -869,27 +869,27 @@ started_at_most f now entries room session total moment keepers queue keeps =
     omega arith
 
 -- the actions that wait are of rules that keep tables
-pub knows_first : (defs : List TableDef) (most : ℕ) (now : List Keyed) (entries : List Entry) (room : ℕ) (session : Option Session) (total moment : ℕ) (keepers : List Keeper) (queue : Queue) → Keeps (fixed_by defs most) now entries room session total moment keepers queue → KnowsFirst defs keepers queue
-knows_first defs most now entries room session total moment keepers queue keeps =
-    let f = fixed_by defs most in
+pub knows_first : (catalog : Catalog) (most : ℕ) (now : List Keyed) (entries : List Entry) (room : ℕ) (session : Option Session) (total moment : ℕ) (keepers : List Keeper) (queue : Queue) → Keeps (fixed_of catalog most) now entries room session total moment keepers queue → KnowsFirst catalog.tables keepers queue
+knows_first catalog most now entries room session total moment keepers queue keeps =
+    let f = fixed_of catalog most in
     let past = reverse entries in
-    let count : length f.rules ≡ length keepers = rules_count defs ∙ sym (ap length keeps.keeping) in
+    let count : length f.rules ≡ length keepers = rules_count f keeps.built ∙ sym (ap length keeps.keeping) in
     record {
       rules = all_weaker (IsWaiting f.rules (happened f past)) (λ (w : Waiting). w.fired.number < length keepers) (λ w waits. let known = waits.1 in omega arith) queue.waiting.items keeps.queued.waiting;
-      tables = subst (AllByRecursion (λ (k : Keeper). k.table < length defs)) (sym keeps.keeping)
-          (all_weaker (IsKept defs) (λ (k : Keeper). k.table < length defs) (λ k kept. kept.there) (keepers_from 0 defs) (all_kept defs keeps.tables_are));
+      tables = subst (AllByRecursion (λ (k : Keeper). k.table < length catalog.tables)) (sym keeps.keeping)
+          (all_weaker (KeepsFirst catalog.tables) (λ (k : Keeper). k.table < length catalog.tables) (λ k kept. kept.there) (all_keepers f) (all_kept f keeps.built));
     }
 
 -- the first of them can be started
-pub can_start : (defs : List TableDef) (most : ℕ) (now : List Keyed) (entries : List Entry) (room : ℕ) (session : Option Session) (total moment : ℕ) (keepers : List Keeper) (queue other : Queue) (kept : Kept) (def : TableDef) → Keeps (fixed_by defs most) now entries room session total moment keepers queue
-    → SameQueue queue other → kept.entries ≡ entries → PreparesStart defs keepers other kept (Ok (Some def)) → CanStart def other kept
-can_start defs most now entries room session total moment keepers queue other kept def keeps same is prepared =
+pub can_start : (catalog : Catalog) (most : ℕ) (now : List Keyed) (entries : List Entry) (room : ℕ) (session : Option Session) (total moment : ℕ) (keepers : List Keeper) (queue other : Queue) (kept : Kept) (def : TableDef) → Keeps (fixed_of catalog most) now entries room session total moment keepers queue
+    → SameQueue queue other → kept.entries ≡ entries → PreparesStart catalog.tables keepers other kept (Ok (Some def)) → CanStart def other kept
+can_start catalog most now entries room session total moment keepers queue other kept def keeps same is prepared =
     let first = prepared.0 in
     let split : queue.waiting.items ≡ first ∷ prepared.1 = sym same.waiting ∙ prepared.2 in
     let late = max (min 0 (2 ^ 63)) moment in
-    let folds = can_start_fold defs most now entries room session total moment 0 0 late keepers queue keeps refl first prepared.1 split in
-    let def_is : def ≡ kept_def defs first.fired.number = prepared.3 ∙ ap (λ ks. def_at defs (get_or ks first.fired.number no_keeper).table) keeps.keeping in
-    let started = started_at_most (fixed_by defs most) now entries room session total moment keepers queue keeps in
+    let folds = can_start_fold catalog most now entries room session total moment 0 0 late keepers queue keeps refl first prepared.1 split in
+    let def_is : def ≡ kept_def (fixed_of catalog most) first.fired.number = prepared.3 ∙ ap (λ ks. def_at catalog.tables (get_or ks first.fired.number no_keeper).table) keeps.keeping in
+    let started = started_at_most (fixed_of catalog most) now entries room session total moment keepers queue keeps in
     let jobs_same = same.jobs in
     let long : length kept.entries ≡ length entries = ap length is in
     let enough = prepared.5 in
@@ -904,31 +904,31 @@ can_start defs most now entries room session total moment keepers queue other ke
     }
 
 -- a start keeps what is kept, and answers what is said
-module _ (defs : List TableDef) (most : ℕ) (now : List Keyed) (entries : List Entry) (room : ℕ) (session : Option Session) (total moment caller asked late : ℕ) (keepers : List Keeper) (queue other : Queue) (was : Kept) (def : TableDef) (keeps : Keeps (fixed_by defs most) now entries room session total moment keepers queue) (when : late ≡ max (min asked (2 ^ 63)) moment) (same : SameQueue queue other) (is : was.entries ≡ entries) (prepared : PreparesStart defs keepers other was (Ok (Some def))) (counts : vec_len other.running ≡ length other.running.items) where
+module _ (catalog : Catalog) (most : ℕ) (now : List Keyed) (entries : List Entry) (room : ℕ) (session : Option Session) (total moment caller asked late : ℕ) (keepers : List Keeper) (queue other : Queue) (was : Kept) (def : TableDef) (keeps : Keeps (fixed_of catalog most) now entries room session total moment keepers queue) (when : late ≡ max (min asked (2 ^ 63)) moment) (same : SameQueue queue other) (is : was.entries ≡ entries) (prepared : PreparesStart catalog.tables keepers other was (Ok (Some def))) (counts : vec_len other.running ≡ length other.running.items) where
   abbrev one_first : Waiting
   one_first = prepared.0
 
-  def_is : def ≡ kept_def defs one_first.fired.number
-  def_is = prepared.3 ∙ ap (λ ks. def_at defs (get_or ks one_first.fired.number no_keeper).table) keeps.keeping
+  def_is : def ≡ kept_def (fixed_of catalog most) one_first.fired.number
+  def_is = prepared.3 ∙ ap (λ ks. def_at catalog.tables (get_or ks one_first.fired.number no_keeper).table) keeps.keeping
 
-  kept_there_yet : Keeps (fixed_by defs most) now was.entries was.room session total moment keepers other
+  kept_there_yet : Keeps (fixed_of catalog most) now was.entries was.room session total moment keepers other
   kept_there_yet =
       let running_same : length other.running.items ≡ length queue.running.items = ap length same.running in
       let enough = prepared.5 in
-      keeps_enough (fixed_by defs most) now entries was.entries room was.room session total moment keepers queue other keeps is (omega arith) same
+      keeps_enough (fixed_of catalog most) now entries was.entries room was.room session total moment keepers queue other keeps is (omega arith) same
 
-  pub start_keeps : (new : Queue) (kept : Kept) (job : Task) → StartsFirst caller late def other was prepared.0 prepared.1 new kept job → Keeps (fixed_by defs most) now kept.entries kept.room session total late keepers new
+  pub start_keeps : (new : Queue) (kept : Kept) (job : Task) → StartsFirst caller late def other was prepared.0 prepared.1 new kept job → Keeps (fixed_of catalog most) now kept.entries kept.room session total late keepers new
   start_keeps new kept job starts =
       let enough = prepared.5 in
-      keeps_start defs most now was.entries was.room session total moment caller asked late keepers other kept_there_yet when prepared.0 prepared.1 prepared.2 kept.entries kept.room def new was kept job starts refl refl refl (omega arith)
+      keeps_start catalog most now was.entries was.room session total moment caller asked late keepers other kept_there_yet when prepared.0 prepared.1 prepared.2 kept.entries kept.room def new was kept job starts refl refl refl (omega arith)
 
   pub start_says : (new : Queue) (kept : Kept) (job : Task) → StartsFirst caller late def other was prepared.0 prepared.1 new kept job
-      → Answers (record { defs = defs; bound_rows = most; history = entries }) (to_start caller asked) (taken job) (record { defs = defs; bound_rows = most; history = kept.entries })
+      → Answers (record { catalog = catalog; bound_rows = most; history = entries }) (to_start caller asked) (taken job) (record { catalog = catalog; bound_rows = most; history = kept.entries })
   start_says new kept job starts =
-      let task : job ≡ task_by (other.jobs + 1) caller (plain_id one_first.place one_first.fired.number) one_first.moment (length one_first.fired.rows) (content_of (kept_def defs one_first.fired.number) one_first.fired.rows) =
+      let task : job ≡ task_by (other.jobs + 1) caller (plain_id one_first.place one_first.fired.number) one_first.moment (length one_first.fired.rows) (content_of (kept_def (fixed_of catalog most) one_first.fired.number) one_first.fired.rows) =
       starts.task ∙ ap (λ d. task_by (other.jobs + 1) caller (plain_id one_first.place one_first.fired.number) one_first.moment (length one_first.fired.rows) (content_of d one_first.fired.rows)) def_is in
-      subst (λ es. Answers (record { defs = defs; bound_rows = most; history = es }) (to_start caller asked) (taken job) (record { defs = defs; bound_rows = most; history = kept.entries })) is
-      (start_answers defs most now was.entries was.room session total moment caller asked late keepers other kept_there_yet when prepared.0 prepared.1 prepared.2 kept.entries job starts.entries task)
+      subst (λ es. Answers (record { catalog = catalog; bound_rows = most; history = es }) (to_start caller asked) (taken job) (record { catalog = catalog; bound_rows = most; history = kept.entries })) is
+      (start_answers catalog most now was.entries was.room session total moment caller asked late keepers other kept_there_yet when prepared.0 prepared.1 prepared.2 kept.entries job starts.entries task)
 
 -- no more sessions than entries have begun
 pub begun_at_most : (f : Fixed) (now : List Keyed) (entries : List Entry) (room : ℕ) (session : Option Session) (total moment : ℕ) (keepers : List Keeper) (queue : Queue) → Keeps f now entries room session total moment keepers queue → total ≤ length entries

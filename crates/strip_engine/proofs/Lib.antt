@@ -17,4 +17,3 @@ pub mod QuietCounts
 pub mod QuietQueries
 pub mod QuietTables
 pub mod QuietExamples
-pub mod ActionTests

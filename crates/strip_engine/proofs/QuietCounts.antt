@@ -14,7 +14,7 @@ use Rattle.strip_model.specs.Derived.{Fixed, happened}
 use Rattle.strip_model.specs.History.{Running, jobs, stopped}
 use Rattle.strip_model.specs.Legal.{Legal}
 use Rattle.strip_engine.specs.Quiet.{IsQuiet, QuietWhere}
-use Rattle.strip_engine.specs.Setup.{AreTables}
+use Rattle.strip_engine.specs.Built.{IsBuilt}
 use Rattle.strip_engine.specs.State.{State as Seen, fixed, past}
 use Rattle.strip_engine.proofs.QuietTables.{quiet_tables_are_queries}
 
@@ -111,7 +111,7 @@ counts_quiet f past waits runs =
     ap not (none_of_both (λ a. state_of (happened f past) a.action) (actions f.rules (happened f past)) waits (λ a. none_runs f past a.action (no_jobs (jobs past) runs)))
 
 -- so each derived table that is kept has the rows of its query
-pub quiet_where : (s : Seen) (told : Counts) → AreTables s.defs → Legal (fixed s) (past s) → told ≡ counts (fixed s) (past s) → QuietWhere s told
-quiet_where s told are legal counted waits runs id some declared =
+pub quiet_where : (s : Seen) (told : Counts) → IsBuilt (fixed s) → Legal (fixed s) (past s) → told ≡ counts (fixed s) (past s) → QuietWhere s told
+quiet_where s told built legal counted waits runs id some declared =
     let quiet = counts_quiet (fixed s) (past s) (ap (λ (n : Counts). n.pending) (sym counted) ∙ waits) (ap (λ (n : Counts). n.running) (sym counted) ∙ runs) in
-    quiet_tables_are_queries s.defs s.bound_rows (past s) id are legal quiet some declared
+    quiet_tables_are_queries (fixed s) (past s) id built legal quiet some declared

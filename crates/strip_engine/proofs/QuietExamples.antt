@@ -1,6 +1,6 @@
 -- A small history on which the law of quiet tables can be seen: three rows are put, their changes are bound at the commit, and
 -- the action is started and finished.
-use Rattle.std.proofs.Common.{◌≡◌, ℕ, true, false, List, [], ◌∷◌, Some, None, inl, inr, pos, codes, refl, arith}
+use Rattle.std.proofs.Common.{◌≡◌, ℕ, zero, suc, true, false, List, [], ◌∷◌, Some, None, inl, inr, pos, codes, refl, arith}
 use Rattle.strip_value.specs.declared.actions.ActionId.{ActionId}
 use Rattle.strip_value.specs.declared.actions.KeyOf.TheVariants.{Plain}
 use Rattle.strip_value.specs.declared.acts.Act.TheVariants.{Put}
@@ -21,8 +21,8 @@ use Rattle.strip_model.specs.Derived.{Fixed, beginning, happened, tables}
 use Rattle.strip_model.specs.Legal.{Begins, Finishes, Legal, Starts}
 use Rattle.strip_meaning.specs.First.{Form, IsBase, IsFirst, first_def}
 use Rattle.strip_engine.specs.Quiet.{IsQuiet, query_rows}
-use Rattle.strip_engine.specs.Setup.{AreTables}
-use Rattle.strip_engine.specs.State.{fixed_by}
+use Rattle.strip_meaning.specs.Contents.{def_at}
+use Rattle.strip_engine.specs.Built.{IsBuilt, functions_of, is_among, rules_of}
 
 -- numbers and their colours, by number
 abbrev numbers : TableDef
@@ -72,14 +72,25 @@ colours_first = record {
   is = refl;
 }
 
-pub are : AreTables defs
-are = record {
-  few = omega arith;
-  each = (inl numbers_base, (inr colours_first, tt));
-}
-
 abbrev small : Fixed
-small = fixed_by defs 9
+small = record { defs = defs; rules = rules_of defs 0 (1 ∷ []); functions = functions_of defs (1 ∷ []); most = 9 }
+
+-- the second table is the one that is kept
+kept_once : (id : ℕ) → (def_at defs id).declared ≡ true → is_among (1 ∷ []) id ≡ true
+kept_once zero declared = cc
+kept_once (suc zero) declared = refl
+kept_once (suc (suc id)) declared = cc
+
+pub built : IsBuilt small
+built = record {
+  few = omega arith;
+  each = (inl numbers_base, (inr (inl colours_first), tt));
+  kept = (record { there = omega arith; first = colours_first; declared = refl }, tt);
+  once = refl;
+  all = kept_once;
+  functions = refl;
+  rules = refl;
+}
 
 abbrev put : ℕ → ℕ → Entry
 put number colour = Did 0 1 (Put 0 (Int (pos number) ∷ Int (pos colour) ∷ [])) (Count 1)

@@ -42,11 +42,10 @@ use Rattle.strip_engine.specs.declared.keepers.Keeper.{Keeper}
 use Rattle.strip_engine.specs.Changes.{bound_by, bound_rows, coming_row, delta_row, deltas, going_row, moved_row, with_delta}
 use Rattle.strip_engine.specs.Jobs.{rows_in}
 use Rattle.strip_meaning.specs.First.{Form, first_def}
-use Rattle.strip_engine.specs.Keepers.{keeper_at, keepers_from, kept_def, no_keeper}
+use Rattle.strip_engine.specs.Keepers.{all_keepers, keeper_at, kept_def, no_keeper}
 use Rattle.strip_engine.specs.Quiet.{DeltasAddUp, group_rows, group_totals, less}
-use Rattle.strip_engine.specs.State.{fixed_by}
 use Rattle.strip_engine.proofs.BoundRows.{acts_name}
-use Rattle.strip_engine.proofs.KeeperRules.{IsKept, all_kept}
+use Rattle.strip_engine.proofs.KeeperRules.{KeepsFirst, all_kept}
 
 -- ---- sums over rows
 
@@ -442,14 +441,13 @@ delta_rows_triple f k (Finish c n ∷ past) = delta_rows_triple f k past
 
 -- the sums of what a commit binds are the totals after it less those before
 pub deltas_add_up : DeltasAddUp
-deltas_add_up defs most past caller session moment rule key are legal lt =
-    let f = fixed_by defs most in
-    let k = keeper_at defs rule in
+deltas_add_up f past caller session moment rule key built legal lt =
+    let k = keeper_at f rule in
     let cs = changes (beginning f) past session in
     let rows = rows_in (bound_by k cs) in
     let before = rows_at (base (beginning f) past) k.source in
     let after = rows_at (base (beginning f) (Commit caller session moment ∷ past)) k.source in
-    let first = (all_at (IsKept defs) (keepers_from 0 defs) rule no_keeper (all_kept defs are) lt).first in
+    let first = (all_at (KeepsFirst f.defs) (all_keepers f) rule no_keeper (all_kept f built) lt).first in
     let values = (commit_adds f past session (value_of k key) k.source legal).adds in
     let ones = (commit_adds f past session (one_of k key) k.source legal).adds in
     let bound_values = bound_adds k (value_of k key) (told_at 1 key) (tells_value k key) cs in
@@ -457,7 +455,7 @@ deltas_add_up defs most past caller session moment rule key are legal lt =
     let value : total (told_at 1 key) rows ≡ total (value_of k key) after -ℤ total (value_of k key) before = omega (arith, ints) in
     let one : total (told_at 2 key) rows ≡ total (one_of k key) after -ℤ total (one_of k key) before = omega (arith, ints) in
     ap (λ (d : TableDef). sums_at d rows key) first.is
-    ∙ sums_are (kept_def defs rule).name first.form first.kind (kept_def defs rule).kept (kept_def defs rule).declared rows key (bound_triple k cs)
+    ∙ sums_are (kept_def f rule).name first.form first.kind (kept_def f rule).kept (kept_def f rule).declared rows key (bound_triple k cs)
     ∙ ap₂ (λ x y. x ∷ y ∷ []) value one
     ∙ sym (ap₂ less (group_is k after key) (group_is k before key))
 

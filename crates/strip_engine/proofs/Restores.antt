@@ -23,9 +23,8 @@ use Rattle.strip_value.proofs.KeyedLaws.{puts_there, taken_back, find_all}
 use Rattle.strip_meaning.specs.Effect.{Effect, effect, unless, refusal, done, full, or_cause, not_held, read_only, derived, misfit, table_at, with_rows, no_table, put_shift}
 use Rattle.strip_engine.specs.declared.undo.Logged.{Logged}
 use Rattle.strip_engine.specs.Changes.{ShiftFits}
-use Rattle.strip_engine.specs.Steps.{PutsInto, PutsRow, RepliesTo, Changes, defs_of, logged_put}
+use Rattle.strip_engine.specs.Steps.{AreTables, PutsInto, PutsRow, RepliesTo, Changes, defs_of, logged_put}
 use Rattle.strip_engine.specs.Undo.{restored, restored_by, all_restored, changes_of, IsLogged}
-use Rattle.strip_engine.specs.Setup.{AreTables}
 use Rattle.strip_engine.proofs.Fits.{def_of_table, one_of, is_base, fits_base}
 
 -- where none of the first causes applies, the last one decides

@@ -36,9 +36,7 @@ use Rattle.strip_model.specs.Derived.{Fixed, beginning, bound_count, fired_at, h
 use Rattle.strip_model.specs.Legal.{Legal}
 use Rattle.strip_engine.specs.Acting.{CanAdd}
 use Rattle.strip_engine.specs.Keepers.{keeper_at, kept_def}
-use Rattle.strip_engine.specs.Rules.{functions_from, rules_from}
-use Rattle.strip_engine.specs.Setup.{AreTables}
-use Rattle.strip_engine.specs.State.{fixed_by}
+use Rattle.strip_engine.specs.Built.{IsBuilt}
 use Rattle.strip_engine.proofs.Overlay.{Rows, derived_at, derived_defs, derived_same}
 use Rattle.strip_engine.proofs.KeeperRules.{function_is, kept_first, kept_there}
 use Rattle.strip_engine.proofs.BoundRows.{AddsTo, RowFits, TablesFit, action_known, added_are, added_own, base_fits, contents_of_rows, first_derived, plain_rows, rows_fit, rows_of_add}
@@ -139,118 +137,118 @@ sums_under m n one two few fewer up more =
 
 -- ---- what the actions of derived tables add
 
-module _ (defs : List TableDef) (are : AreTables defs) (past : List Happened) (all : AllByRecursion (RowFits defs) (all_rows (rules_from 0 defs) past)) where
+module _ (f : Fixed) (built : IsBuilt f) (past : List Happened) (all : AllByRecursion (RowFits f) (all_rows f.rules past)) where
   -- the rows that an action adds to a table
   abbrev adds : ℕ → BoundRow → List (List Value)
-  adds = action_adds defs (functions_from 0 defs) (rules_from 0 defs) past
+  adds = action_adds f.defs f.functions f.rules past
 
   abbrev own : ActionId → List BoundRow
-  own = rows_of (rules_from 0 defs) past
+  own = rows_of f.rules past
 
-  adds_can : (id : ℕ) (a : BoundRow) → a.action.function < length (rules_from 0 defs) → Addable (def_at defs id) (length (own a.action)) (adds id a)
+  adds_can : (id : ℕ) (a : BoundRow) → a.action.function < length f.rules → Addable (def_at f.defs id) (length (own a.action)) (adds id a)
   adds_can id a lt =
-      subst (Addable (def_at defs id) (length rows))
-      (sym (ap (λ function. flat_map (step_adds defs function rows id) function.steps) (function_is defs n lt) ∙ append-nil (cond (into == id) (added_rows (def_at defs id) (keep_function (kept_def defs n) into) 0 rows) [])))
+      subst (Addable (def_at f.defs id) (length rows))
+      (sym (ap (λ function. flat_map (step_adds f.defs function rows id) function.steps) (function_is f built n lt) ∙ append-nil (cond (into == id) (added_rows (def_at f.defs id) (keep_function (kept_def f n) into) 0 rows) [])))
       (by_test (into == id) refl)
     where
       n : ℕ
       n = a.action.function
 
       into : ℕ
-      into = (keeper_at defs n).table
+      into = (keeper_at f n).table
 
       rows : List BoundRow
       rows = own a.action
 
-      by_test : (b : Bool) → (into == id) ≡ b → Addable (def_at defs id) (length rows) (cond b (added_rows (def_at defs id) (keep_function (kept_def defs n) into) 0 rows) [])
+      by_test : (b : Bool) → (into == id) ≡ b → Addable (def_at f.defs id) (length rows) (cond b (added_rows (def_at f.defs id) (keep_function (kept_def f n) into) 0 rows) [])
       by_test true e =
-          let adding = rows_of_add defs (rules_from 0 defs) past a.action all in
-          subst (λ one. Addable (def_at defs one) (length rows) (added_rows (def_at defs one) (keep_function (kept_def defs n) into) 0 rows)) (eqb-true into id e)
-          (subst (Addable (kept_def defs n) (length rows)) (sym (added_own defs (kept_def defs n) (kept_first defs are n lt) rows adding)) (plain_can (kept_def defs n) rows adding))
+          let adding = rows_of_add f f.rules past a.action all in
+          subst (λ one. Addable (def_at f.defs one) (length rows) (added_rows (def_at f.defs one) (keep_function (kept_def f n) into) 0 rows)) (eqb-true into id e)
+          (subst (Addable (kept_def f n) (length rows)) (sym (added_own f.defs (kept_def f n) (kept_first f built n lt) rows adding)) (plain_can (kept_def f n) rows adding))
       by_test false e = record { fits = tt; small = tt; few = omega arith }
 
   -- so of each action
-  each_can : (id : ℕ) → AllByRecursion (λ a. Addable (def_at defs id) (length (own a.action)) (adds id a)) (actions (rules_from 0 defs) past)
+  each_can : (id : ℕ) → AllByRecursion (λ a. Addable (def_at f.defs id) (length (own a.action)) (adds id a)) (actions f.rules past)
   each_can id =
-      all_weaker (λ a. a.action.function < length (rules_from 0 defs)) (λ a. Addable (def_at defs id) (length (own a.action)) (adds id a)) (adds_can id)
-      (actions (rules_from 0 defs) past) (action_known defs (rules_from 0 defs) past all)
+      all_weaker (λ a. a.action.function < length f.rules) (λ a. Addable (def_at f.defs id) (length (own a.action)) (adds id a)) (adds_can id)
+      (actions f.rules past) (action_known f f.rules past all)
 
   -- all of them together add no more rows than are bound
-  added_few : (id : ℕ) → length (flat_map (adds id) (in_state is_finished (rules_from 0 defs) past)) ≤ length (all_rows (rules_from 0 defs) past)
+  added_few : (id : ℕ) → length (flat_map (adds id) (in_state is_finished f.rules past)) ≤ length (all_rows f.rules past)
   added_few id =
-      let those = in_state is_finished (rules_from 0 defs) past in
-      let fewer = flat_fewer (adds id) (λ a. own a.action) those (all_filter (λ a. length (adds id a) ≤ length (own a.action)) (is_in is_finished past) (actions (rules_from 0 defs) past)
-      (all_weaker (λ a. Addable (def_at defs id) (length (own a.action)) (adds id a)) (λ a. length (adds id a) ≤ length (own a.action)) (λ a can. can.few) (actions (rules_from 0 defs) past) (each_can id))) in
-      let once = in_one_action those (all_rows (rules_from 0 defs) past) (behind_filter Apart (is_in is_finished past) (actions (rules_from 0 defs) past) (actions_apart (rules_from 0 defs) past)) in
+      let those = in_state is_finished f.rules past in
+      let fewer = flat_fewer (adds id) (λ a. own a.action) those (all_filter (λ a. length (adds id a) ≤ length (own a.action)) (is_in is_finished past) (actions f.rules past)
+      (all_weaker (λ a. Addable (def_at f.defs id) (length (own a.action)) (adds id a)) (λ a. length (adds id a) ≤ length (own a.action)) (λ a can. can.few) (actions f.rules past) (each_can id))) in
+      let once = in_one_action those (all_rows f.rules past) (behind_filter Apart (is_in is_finished past) (actions f.rules past) (actions_apart f.rules past)) in
       omega arith
 
   -- the totals of a derived table
-  summed_small : (id : ℕ) → AllByRecursion (λ row. AllByRecursion (IsUpTo (2 ^ 63 * length (all_rows (rules_from 0 defs) past))) (totals_of (def_at defs id) row)) (summed_up defs (functions_from 0 defs) (rules_from 0 defs) past id)
+  summed_small : (id : ℕ) → AllByRecursion (λ row. AllByRecursion (IsUpTo (2 ^ 63 * length (all_rows f.rules past))) (totals_of (def_at f.defs id) row)) (summed_up f.defs f.functions f.rules past id)
   summed_small id =
-      let def = def_at defs id in
-      let added = length (flat_map (adds id) (in_state is_finished (rules_from 0 defs) past)) in
-      let bound = length (all_rows (rules_from 0 defs) past) in
+      let def = def_at f.defs id in
+      let added = length (flat_map (adds id) (in_state is_finished f.rules past)) in
+      let bound = length (all_rows f.rules past) in
       let few = added_few id in
       all_weaker (λ row. AllByRecursion (IsUpTo (2 ^ 63 * added)) (totals_of def row)) (λ row. AllByRecursion (IsUpTo (2 ^ 63 * bound)) (totals_of def row)) (λ row up. up_to_more (2 ^ 63 * added) (2 ^ 63 * bound) (omega arith) (totals_of def row) up)
-      (summed_up defs (functions_from 0 defs) (rules_from 0 defs) past id)
-      (summed_up_bounded defs (functions_from 0 defs) (rules_from 0 defs) past id (2 ^ 63)
-      (all_weaker (λ a. Addable def (length (own a.action)) (adds id a)) (λ a. AllUnder def (2 ^ 63) (adds id a)) (λ a can. can.small) (actions (rules_from 0 defs) past) (each_can id)))
+      (summed_up f.defs f.functions f.rules past id)
+      (summed_up_bounded f.defs f.functions f.rules past id (2 ^ 63)
+      (all_weaker (λ a. Addable def (length (own a.action)) (adds id a)) (λ a. AllUnder def (2 ^ 63) (adds id a)) (λ a can. can.small) (actions f.rules past) (each_can id)))
 
   -- ---- one that is finished
 
   -- the sums of an action's rows, which it is to do
-  pub totals_are : (action : ActionId) (totals : List (List Value)) → action.function < length (rules_from 0 defs) → contents defs (get_or (functions_from 0 defs) action.function no_function) (own action) ≡ Totals totals ∷ [] → totals ≡ folded (kept_def defs action.function) (plain_rows (own action))
+  pub totals_are : (action : ActionId) (totals : List (List Value)) → action.function < length f.rules → contents f.defs (get_or f.functions action.function no_function) (own action) ≡ Totals totals ∷ [] → totals ≡ folded (kept_def f action.function) (plain_rows (own action))
   totals_are action totals lt e =
-      let is = contents_of_rows defs are action.function lt (own action) (rows_of_add defs (rules_from 0 defs) past action all) in
+      let is = contents_of_rows f built action.function lt (own action) (rows_of_add f f.rules past action all) in
       cc
 
-  module _ (number : ℕ) (course : Course (rules_from 0 defs) (finish number ∷ past)) (action : ActionId) (runs : IsIn (rules_from 0 defs) past action (running number)) where
+  module _ (number : ℕ) (course : Course f.rules (finish number ∷ past)) (action : ActionId) (runs : IsIn f.rules past action (running number)) where
     -- a rule made the action
-    pub job_known : action.function < length (rules_from 0 defs)
+    pub job_known : action.function < length f.rules
     job_known =
-        subst (λ (one : ActionId). one.function < length (rules_from 0 defs)) runs.4
-        (all_middle (λ a. a.action.function < length (rules_from 0 defs)) runs.1 runs.0 runs.2 (subst (AllByRecursion (λ a. a.action.function < length (rules_from 0 defs))) runs.3 (action_known defs (rules_from 0 defs) past all)))
+        subst (λ (one : ActionId). one.function < length f.rules) runs.4
+        (all_middle (λ a. a.action.function < length f.rules) runs.1 runs.0 runs.2 (subst (AllByRecursion (λ a. a.action.function < length f.rules)) runs.3 (action_known f f.rules past all)))
 
     abbrev into : ℕ
-    into = (keeper_at defs action.function).table
+    into = (keeper_at f action.function).table
 
     abbrev def : TableDef
-    def = kept_def defs action.function
+    def = kept_def f action.function
 
     -- the one step of its function
-    steps_are : (get_or (functions_from 0 defs) runs.0.action.function no_function).steps ≡ Add 0 into ∷ []
+    steps_are : (get_or f.functions runs.0.action.function no_function).steps ≡ Add 0 into ∷ []
     steps_are =
-        ap (λ (one : ActionId). (get_or (functions_from 0 defs) one.function no_function).steps) runs.4
-        ∙ ap (λ function. function.steps) (function_is defs action.function job_known)
+        ap (λ (one : ActionId). (get_or f.functions one.function no_function).steps) runs.4
+        ∙ ap (λ function. function.steps) (function_is f built action.function job_known)
 
     here_runs : state_of past runs.0.action ≡ running number
     here_runs = ap (state_of past) runs.4 ∙ runs.5
 
     -- its finish leaves the other tables
-    pub sums_elsewhere : (id : ℕ) → (into ≡ id → ⊥) → summed_up defs (functions_from 0 defs) (rules_from 0 defs) (finish number ∷ past) id ≡ summed_up defs (functions_from 0 defs) (rules_from 0 defs) past id
+    pub sums_elsewhere : (id : ℕ) → (into ≡ id → ⊥) → summed_up f.defs f.functions f.rules (finish number ∷ past) id ≡ summed_up f.defs f.functions f.rules past id
     sums_elsewhere id other =
-        summed_up_elsewhere defs (functions_from 0 defs) (rules_from 0 defs) number past course runs.1 runs.0 runs.2 runs.3 here_runs 0 into steps_are id other
+        summed_up_elsewhere f.defs f.functions f.rules number past course runs.1 runs.0 runs.2 runs.3 here_runs 0 into steps_are id other
 
     -- and adds its sums to the table of its rule
-    pub sums_at_finish : applied def (summed_up defs (functions_from 0 defs) (rules_from 0 defs) past into) (folded def (plain_rows (own action))) ≡ summed_up defs (functions_from 0 defs) (rules_from 0 defs) (finish number ∷ past) into
+    pub sums_at_finish : applied def (summed_up f.defs f.functions f.rules past into) (folded def (plain_rows (own action))) ≡ summed_up f.defs f.functions f.rules (finish number ∷ past) into
     sums_at_finish =
-        let adding = rows_of_add defs (rules_from 0 defs) past action all in
-        let added : added_rows def (get_or (functions_from 0 defs) runs.0.action.function no_function) 0 (own runs.0.action) ≡ plain_rows (own action) =
-        ap (λ (one : ActionId). added_rows def (get_or (functions_from 0 defs) one.function no_function) 0 (own one)) runs.4 ∙ added_are defs are action.function job_known (own action) adding in
-        ap (λ rows. applied def (summed_up defs (functions_from 0 defs) (rules_from 0 defs) past into) (folded def rows)) (sym added)
-        ∙ summed_up_at_finish defs (functions_from 0 defs) (rules_from 0 defs) number past course runs.1 runs.0 runs.2 runs.3 here_runs 0 into steps_are (first_derived defs def (kept_first defs are action.function job_known))
-        (all_weaker (λ a. Addable def (length (own a.action)) (adds into a)) (λ a. AllByRecursion (FitsColumns def.columns) (adds into a)) (λ a can. can.fits) (actions (rules_from 0 defs) past) (each_can into))
+        let adding = rows_of_add f f.rules past action all in
+        let added : added_rows def (get_or f.functions runs.0.action.function no_function) 0 (own runs.0.action) ≡ plain_rows (own action) =
+        ap (λ (one : ActionId). added_rows def (get_or f.functions one.function no_function) 0 (own one)) runs.4 ∙ added_are f built action.function job_known (own action) adding in
+        ap (λ rows. applied def (summed_up f.defs f.functions f.rules past into) (folded def rows)) (sym added)
+        ∙ summed_up_at_finish f.defs f.functions f.rules number past course runs.1 runs.0 runs.2 runs.3 here_runs 0 into steps_are (first_derived f.defs def (kept_first f built action.function job_known))
+        (all_weaker (λ a. Addable def (length (own a.action)) (adds into a)) (λ a. AllByRecursion (FitsColumns def.columns) (adds into a)) (λ a can. can.fits) (actions f.rules past) (each_can into))
 
     -- the sums can be added to the table
-    pub job_can : length (all_rows (rules_from 0 defs) past) ≤ 2 ^ 60 → CanAdd (record { def = def; rows = summed_up defs (functions_from 0 defs) (rules_from 0 defs) past into }) (folded def (plain_rows (own action)))
+    pub job_can : length (all_rows f.rules past) ≤ 2 ^ 60 → CanAdd (record { def = def; rows = summed_up f.defs f.functions f.rules past into }) (folded def (plain_rows (own action)))
     job_can few =
         let rows = own action in
-        let bound = length (all_rows (rules_from 0 defs) past) in
-        let derived = first_derived defs def (kept_first defs are action.function job_known) in
-        let can = plain_can def rows (rows_of_add defs (rules_from 0 defs) past action all) in
-        let fewer = length-filter_both (in_action action) (λ r. not (in_action action r)) (λ r. refl) (all_rows (rules_from 0 defs) past) in
+        let bound = length (all_rows f.rules past) in
+        let derived = first_derived f.defs def (kept_first f built action.function job_known) in
+        let can = plain_can def rows (rows_of_add f f.rules past action all) in
+        let fewer = length-filter_both (in_action action) (λ r. not (in_action action r)) (λ r. refl) (all_rows f.rules past) in
         let plain_few = can.few in
-        let table = summed_up defs (functions_from 0 defs) (rules_from 0 defs) past into in
+        let table = summed_up f.defs f.functions f.rules past into in
         record {
           derived = derived;
           rise = folded_rises def (plain_rows rows) derived;
@@ -301,8 +299,8 @@ table_is f past id def fit same some =
     ∙ table_with (table_at ts id) def (sums_of f past id) def_is some
 
 -- the definitions of all tables
-pub tables_defs : (f : Fixed) (past : List Entry) → AreTables f.defs → Legal f past → map (λ (t : Keyed). t.def) (tables f past) ≡ f.defs
-tables_defs f past are legal = derived_defs (sums_of f past) 0 (base (beginning f) past) ∙ (base_fits f past are legal).same
+pub tables_defs : (f : Fixed) (past : List Entry) → IsBuilt f → Legal f past → map (λ (t : Keyed). t.def) (tables f past) ≡ f.defs
+tables_defs f past built legal = derived_defs (sums_of f past) 0 (base (beginning f) past) ∙ (base_fits f past built legal).same
 
 -- what a finish asks of the table of its action's rule, and what it makes of the tables
 pub record FinishAdds (f : Fixed) (past : List Entry) (caller number id : ℕ) (totals : List (List Value)) : Type 0 where
@@ -310,34 +308,33 @@ pub record FinishAdds (f : Fixed) (past : List Entry) (caller number id : ℕ) (
   pub can : CanAdd (table_at (tables f past) id) totals
   pub after : with_rows (tables f past) id (applied (table_at (tables f past) id).def (table_at (tables f past) id).rows totals) ≡ tables f (Finish caller number ∷ past)
 
-pub finish_adds : (defs : List TableDef) → AreTables defs → (most : ℕ) (past : List Entry) → Legal (fixed_by defs most) past → Course (rules_from 0 defs) (happened (fixed_by defs most) past)
-    → (caller number : ℕ) (action : ActionId) → IsIn (rules_from 0 defs) (happened (fixed_by defs most) past) action (running number) → bound_count (fixed_by defs most) past ≤ 2 ^ 60
-    → (totals : List (List Value)) → contents defs (get_or (functions_from 0 defs) action.function no_function) (rows_of (rules_from 0 defs) (happened (fixed_by defs most) past) action) ≡ Totals totals ∷ []
-    → FinishAdds (fixed_by defs most) past caller number (keeper_at defs action.function).table totals
-finish_adds defs are most past legal course_before caller number action runs few totals e =
-    let f = fixed_by defs most in
+pub finish_adds : (f : Fixed) → IsBuilt f → (past : List Entry) → Legal f past → Course f.rules (happened f past)
+    → (caller number : ℕ) (action : ActionId) → IsIn f.rules (happened f past) action (running number) → bound_count f past ≤ 2 ^ 60
+    → (totals : List (List Value)) → contents f.defs (get_or f.functions action.function no_function) (rows_of f.rules (happened f past) action) ≡ Totals totals ∷ []
+    → FinishAdds f past caller number (keeper_at f action.function).table totals
+finish_adds f built past legal course_before caller number action runs few totals e =
     let before = happened f past in
-    let all = rows_fit defs are most past legal in
-    let course : Course (rules_from 0 defs) (finish number ∷ before) = ((action, runs), course_before) in
-    let lt = job_known defs are before all number course action runs in
-    let first = kept_first defs are action.function lt in
-    let id = (keeper_at defs action.function).table in
-    let def = kept_def defs action.function in
+    let all = rows_fit f built past legal in
+    let course : Course f.rules (finish number ∷ before) = ((action, runs), course_before) in
+    let lt = job_known f built before all number course action runs in
+    let first = kept_first f built action.function lt in
+    let id = (keeper_at f action.function).table in
+    let def = kept_def f action.function in
     let some : is_some def.query ≡ true = ap (λ (d : TableDef). is_some d.query) first.is in
-    let fit = base_fits f past are legal in
+    let fit = base_fits f past built legal in
     let table = table_is f past id def fit refl some in
-    let totals_is = totals_are defs are before all action totals lt e in
+    let totals_is = totals_are f built before all action totals lt e in
     let itself : id ≡ 0 + id = omega arith in
     let sums : applied def (sums_of f past id) totals ≡ sums_of f (Finish caller number ∷ past) (0 + id) =
-    ap (applied def (sums_of f past id)) totals_is ∙ sums_at_finish defs are before all number course action runs ∙ ap (sums_of f (Finish caller number ∷ past)) itself in
+    ap (applied def (sums_of f past id)) totals_is ∙ sums_at_finish f built before all number course action runs ∙ ap (sums_of f (Finish caller number ∷ past)) itself in
     let base_some : is_some (table_at (base (beginning f) past) id).def.query ≡ true =
     ap (λ (d : TableDef). is_some d.query) (sym (get_or-map (λ (u : Keyed). u.def) (base (beginning f) past) id no_table) ∙ ap (λ ds. def_at ds id) fit.same) ∙ some in
     record {
-      there = kept_there defs are action.function lt;
-      can = subst (λ t. CanAdd t totals) (sym table) (subst (CanAdd (record { def = def; rows = sums_of f past id })) (sym totals_is) (job_can defs are before all number course action runs few));
+      there = kept_there f built action.function lt;
+      can = subst (λ t. CanAdd t totals) (sym table) (subst (CanAdd (record { def = def; rows = sums_of f past id })) (sym totals_is) (job_can f built before all number course action runs few));
       after =
           ap (λ (t : Keyed). with_rows (tables f past) id (applied t.def t.rows totals)) table
           ∙ ap (with_rows (tables f past) id) sums
           ∙ derived_put (sums_of f past) (sums_of f (Finish caller number ∷ past)) 0 (base (beginning f) past) id base_some (λ other apart.
-          sym (sums_elsewhere defs are before all number course action runs other (λ same. apart (omega arith))));
+          sym (sums_elsewhere f built before all number course action runs other (λ same. apart (omega arith))));
     }

@@ -3,7 +3,6 @@ use Rattle.std.specs.Prelude.{◌≡◌, ℕ, List, [], get_or, IfSome, Result, 
 use Rattle.std.specs.declared.alloc.AllocError.{AllocError}
 use Rattle.strip_value.specs.declared.acts.Act.{Act}
 use Rattle.strip_value.specs.declared.acts.Reply.{Reply}
-use Rattle.strip_value.specs.declared.tables.TableDef.{TableDef}
 use Rattle.strip_meaning.specs.Actions.{rows_of}
 use Rattle.strip_meaning.specs.Contents.{contents, no_function}
 use Rattle.strip_model.specs.declared.entries.Entry.{Entry}
@@ -11,6 +10,7 @@ use Rattle.strip_model.specs.Derived.{Fixed, happened}
 use Rattle.strip_model.specs.Legal.{job_of}
 use Rattle.strip_model.specs.Says.{Call, to_begin, to_act, to_commit, to_undo, to_start, to_finish, Answer, opened, replied, fired, undone, spent, no_session, taken, none_pending, not_running, Task, says}
 use Rattle.strip_model.specs.Says as said
+use Rattle.strip_setup.specs.Catalog.{Catalog}
 use Rattle.strip_engine.specs.declared.answers.ActFault.{ActFault}
 use Rattle.strip_engine.specs.declared.answers.ActFault.TheVariants as act_fault
 use Rattle.strip_engine.specs.declared.answers.BeginError.{BeginError}
@@ -27,9 +27,9 @@ use Rattle.strip_engine.specs.declared.answers.NoSession.{NoSession}
 use Rattle.strip_engine.specs.State.{State, fixed, past, with_entry}
 
 -- an engine is made with its catalog and limits, and an empty history; else the catalog comes back
-abbrev pub IsNew : List TableDef → ℕ → Result State (List TableDef × AllocError) → Type 0
-IsNew defs bound_rows (Ok engine) = engine ≡ record { defs = defs; bound_rows = bound_rows; history = [] }
-IsNew defs bound_rows (Err refused) = refused.0 ≡ defs
+abbrev pub IsNew : Catalog → ℕ → Result State (Catalog × AllocError) → Type 0
+IsNew catalog bound_rows (Ok engine) = engine ≡ record { catalog = catalog; bound_rows = bound_rows; history = [] }
+IsNew catalog bound_rows (Err refused) = refused.0 ≡ catalog
 
 -- the call has this answer by what the engine says after its history, and just that entry was added
 pub record Answers (old : State) (call : Call) (answer : Answer) (new : State) : Type 0 where

@@ -10,9 +10,9 @@ use Rattle.strip_model.specs.Legal.{Legal}
 use Rattle.strip_engine.specs.declared.keepers.Keeper.{Keeper}
 use Rattle.strip_engine.specs.declared.queue.Queue.{Queue}
 use Rattle.strip_engine.specs.declared.undo.Session.{Session}
-use Rattle.strip_engine.specs.Keepers.{keepers_from}
+use Rattle.strip_engine.specs.Built.{IsBuilt}
+use Rattle.strip_engine.specs.Keepers.{all_keepers}
 use Rattle.strip_engine.specs.Queue.{Queues}
-use Rattle.strip_engine.specs.Setup.{AreTables}
 use Rattle.strip_engine.specs.Undo.{all_restored, changes_of, IsLogged}
 
 -- the session of the field is the one that is live; the tables are as it has made them, and its log has its changes and
@@ -40,9 +40,9 @@ Stands f now past room running (Some session) = InProgress f now past room runni
 
 -- the history is legal, the counters and the queue are its own, and the tables are what it gives
 pub record Keeps (f : Fixed) (now : List Keyed) (entries : List Entry) (room : ℕ) (session : Option Session) (count moment : ℕ) (keepers : List Keeper) (queue : Queue) : Type 0 where
-  pub tables_are : AreTables f.defs
+  pub built : IsBuilt f
   pub bounded : f.most ≤ 2 ^ 60
-  pub keeping : keepers ≡ keepers_from 0 f.defs
+  pub keeping : keepers ≡ all_keepers f
   pub defined : map (λ table. table.def) now ≡ f.defs
   pub legal : Legal f (reverse entries)
   pub counted : count ≡ begins (reverse entries)

@@ -22,9 +22,9 @@ use Rattle.strip_model.specs.Legal.{Legal}
 use Rattle.strip_engine.specs.declared.keepers.Keeper.{Keeper}
 use Rattle.strip_engine.specs.Changes.{bound_by}
 use Rattle.strip_engine.specs.Jobs.{rows_in}
-use Rattle.strip_engine.specs.Keepers.{keeper_at, keepers_from, kept_def}
-use Rattle.strip_engine.specs.Setup.{AreTables}
-use Rattle.strip_engine.specs.State.{State, fixed, fixed_by, past}
+use Rattle.strip_engine.specs.Built.{IsBuilt}
+use Rattle.strip_engine.specs.Keepers.{all_keepers, keeper_at, kept_def}
+use Rattle.strip_engine.specs.State.{State, fixed, past}
 
 -- ---- derived tables are their queries
 
@@ -44,17 +44,17 @@ query_rows def tables = rows_by def.query tables
 -- of its query over the base tables
 abbrev pub QuietTablesAreQueries : Type 0
 QuietTablesAreQueries =
-    (defs : List TableDef) (most : ℕ) (past : List Entry) (id : ℕ) → AreTables defs → Legal (fixed_by defs most) past → IsQuiet (fixed_by defs most) past
-    → is_some (def_at defs id).query ≡ true → (def_at defs id).declared ≡ true
-    → (table_at (tables (fixed_by defs most) past) id).rows ≡ query_rows (def_at defs id) (base (beginning (fixed_by defs most)) past)
+    (f : Fixed) (past : List Entry) (id : ℕ) → IsBuilt f → Legal f past → IsQuiet f past
+    → is_some (def_at f.defs id).query ≡ true → (def_at f.defs id).declared ≡ true
+    → (table_at (tables f past) id).rows ≡ query_rows (def_at f.defs id) (base (beginning f) past)
 
 -- where none waits and none runs, by these counts, each derived table that is declared to be kept has the rows of its query
 -- over the base tables of the history
 abbrev pub QuietWhere : State → Counts → Type 0
 QuietWhere s counts =
     counts.pending ≡ 0 → counts.running ≡ 0
-    → (id : ℕ) → is_some (def_at s.defs id).query ≡ true → (def_at s.defs id).declared ≡ true
-    → (table_at (tables (fixed s) (past s)) id).rows ≡ query_rows (def_at s.defs id) (base (beginning (fixed s)) (past s))
+    → (id : ℕ) → is_some (def_at s.catalog.tables id).query ≡ true → (def_at s.catalog.tables id).declared ≡ true
+    → (table_at (tables (fixed s) (past s)) id).rows ≡ query_rows (def_at s.catalog.tables id) (base (beginning (fixed s)) (past s))
 
 -- ---- what is bound at a commit adds up
 
@@ -70,8 +70,8 @@ group_totals k rows key =
 -- the query of a derived table that is kept has, per key, the totals of the group; where it has no row, they are zeros
 abbrev pub QueryHasTotals : Type 0
 QueryHasTotals =
-    (defs : List TableDef) (ts : List Keyed) (rule : ℕ) (key : List Value) → AreTables defs → rule < length (keepers_from 0 defs)
-    → totals_at (kept_def defs rule) (query_rows (kept_def defs rule) ts) key ≡ group_totals (keeper_at defs rule) (rows_at ts (keeper_at defs rule).source) key
+    (f : Fixed) (ts : List Keyed) (rule : ℕ) (key : List Value) → IsBuilt f → rule < length (all_keepers f)
+    → totals_at (kept_def f rule) (query_rows (kept_def f rule) ts) key ≡ group_totals (keeper_at f rule) (rows_at ts (keeper_at f rule).source) key
 
 -- numbers less others, place by place
 abbrev pub less : List ℤ → List ℤ → List ℤ
@@ -82,10 +82,10 @@ less _ _ = []
 -- base table after the commit less those before it
 abbrev pub DeltasAddUp : Type 0
 DeltasAddUp =
-    (defs : List TableDef) (most : ℕ) (past : List Entry) (caller session moment : ℕ) (rule : ℕ) (key : List Value) → AreTables defs → Legal (fixed_by defs most) past → rule < length (keepers_from 0 defs)
-    → sums_at (kept_def defs rule) (rows_in (bound_by (keeper_at defs rule) (changes (beginning (fixed_by defs most)) past session))) key
-    ≡ less (group_totals (keeper_at defs rule) (rows_at (base (beginning (fixed_by defs most)) (Commit caller session moment ∷ past)) (keeper_at defs rule).source) key)
-    (group_totals (keeper_at defs rule) (rows_at (base (beginning (fixed_by defs most)) past) (keeper_at defs rule).source) key)
+    (f : Fixed) (past : List Entry) (caller session moment : ℕ) (rule : ℕ) (key : List Value) → IsBuilt f → Legal f past → rule < length (all_keepers f)
+    → sums_at (kept_def f rule) (rows_in (bound_by (keeper_at f rule) (changes (beginning f) past session))) key
+    ≡ less (group_totals (keeper_at f rule) (rows_at (base (beginning f) (Commit caller session moment ∷ past)) (keeper_at f rule).source) key)
+    (group_totals (keeper_at f rule) (rows_at (base (beginning f) past) (keeper_at f rule).source) key)
 
 -- ---- each bound row is in one action
 

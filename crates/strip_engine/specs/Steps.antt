@@ -15,7 +15,12 @@ use Rattle.strip_model.specs.declared.entries.Entry.{Entry}
 use Rattle.strip_model.specs.declared.entries.Entry.TheVariants.{Did}
 use Rattle.strip_engine.specs.declared.undo.Logged.{Logged}
 use Rattle.strip_engine.specs.declared.undo.Session.{Session}
+use Rattle.strip_engine.specs.Built.{IsTableOf}
 use Rattle.strip_engine.specs.Undo.{all_restored, changes_of, IsLogged}
+
+-- each is a base table or a derived one of these
+abbrev pub AreTables : List TableDef → Type 0
+AreTables defs = AllByRecursion (IsTableOf defs) defs
 
 abbrev pub defs_of : List Keyed → List TableDef
 defs_of tables = map (λ table. table.def) tables

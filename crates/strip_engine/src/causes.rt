@@ -1,4 +1,4 @@
-ghost use Rattle.std.specs.Prelude.{◌≡◌, ◌≤◌, length};
+ghost use Rattle.std.specs.Prelude.{◌≡◌, ◌≤◌, length, None};
 ghost use Rattle.strip_meaning.specs.Effect.{has_id, not_held, read_only, derived, is_alike, is_outside, outside_at, kind_mismatch, out_of_range, misfit, or_cause};
 
 use strip_value::{ActError, ColumnDef, Holds, Id, Kind, TableDef, Value};
@@ -127,7 +127,7 @@ pub(crate) fn cause_before_put(
     id: Id,
     row: &[Value],
 ) -> Option<ActError>
-    requires { length def.now.columns ≤ 16 }
+    requires { def.now.query ≡ None → length def.now.columns ≤ 16 }
     ensures { result ≡ or_cause (not_held holds.now id) (or_cause (read_only holds.now id) (or_cause (derived def.now id) (misfit def.now.columns row.now))) }
 {
     if let Some(cause) = cause_not_held(holds, id) {

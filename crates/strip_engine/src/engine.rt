@@ -1,8 +1,9 @@
-ghost use Rattle.std.specs.Prelude.{◌≡◌, ◌≤◌, ◌^◌, ◌+◌, ◌<◌, [], length, IfOk};
+ghost use Rattle.std.specs.Prelude.{◌≡◌, ◌≤◌, ◌^◌, ◌+◌, ◌<◌, true, [], length, IfOk};
+ghost use Rattle.strip_engine.specs.Built.{IsBuilt};
 ghost use Rattle.strip_engine.specs.Calls.{IsNew, BeginsSession, Acts, Commits, Undoes, Starts, Finishes, HasContent};
 ghost use Rattle.strip_engine.specs.Made.{IsMade, AddsBegin};
 ghost use Rattle.strip_engine.specs.Quiet.{QuietWhere};
-ghost use Rattle.strip_engine.specs.State.{past, fixed};
+ghost use Rattle.strip_engine.specs.State.{fixed, fixed_of, past};
 ghost use Rattle.strip_model.specs.Counted.{counts};
 ghost use Rattle.strip_model.specs.History.{empty_tables, live};
 ghost use Rattle.strip_model.specs.Legal.{Legal, Names};
@@ -16,12 +17,12 @@ use crate::holds::holds_of;
 use crate::jobs::{Done, Job};
 use crate::keepers::{Keeper, keepers_of};
 use crate::queue::{Queue, place_of, stop};
-use crate::setup::Catalog;
 use crate::starting::{next_number, prepare_start, start_first};
 use crate::steps::perform;
 use crate::undo::{Session, restore_all};
 use std::alloc::{AllocError, Global};
 use std::marker::Model;
+use strip_catalog::Catalog;
 use strip_model::{Entry, History};
 use strip_table::Table;
 use strip_value::{Act, Counts, Duplicate, Id, Reply, TableDef};
@@ -45,7 +46,7 @@ pub struct Engine {
 }
 
 impl Model for Engine {
-    ghost use Rattle.strip_engine.specs.State.{State, fixed_by, state_code};
+    ghost use Rattle.strip_engine.specs.State.{State, fixed_of, state_code};
 
     ghost Value = { State };
 
@@ -54,12 +55,12 @@ impl Model for Engine {
     ghost use Rattle.strip_engine.specs.Keeps.{Keeps};
 
     ghost view = { λ e. record {
-      defs = e.catalog;
+      catalog = e.catalog;
       bound_rows = e.limits.bound_rows;
       history = e.history.entries;
     } };
 
-    ghost invariant = { λ e. Keeps (fixed_by e.catalog e.limits.bound_rows) e.tables.items e.history.entries e.history.room e.session e.begins e.latest e.keepers.items e.queue };
+    ghost invariant = { λ e. Keeps (fixed_of e.catalog e.limits.bound_rows) e.tables.items e.history.entries e.history.room e.session e.begins e.latest e.keepers.items e.queue };
 }
 
 impl Engine {
@@ -69,13 +70,15 @@ impl Engine {
         catalog: Catalog,
         limits: Limits,
     ) -> Result<Engine, (Catalog, AllocError)>
-        requires { limits.bound_rows ≤ 2 ^ 60 }
+        requires closed { catalog.closed ≡ true }
+        requires built { IsBuilt (fixed_of catalog limits.bound_rows) }
+        requires bounded { limits.bound_rows ≤ 2 ^ 60 }
         ensures { IsNew catalog limits.bound_rows result }
     {
         let Ok(tables) = empty(alloc, catalog.defs()) else {
             return Err((catalog, AllocError));
         };
-        let Ok(keepers) = keepers_of(alloc, catalog.defs()) else {
+        let Ok(keepers) = keepers_of(alloc, catalog.defs(), catalog.functions()) else {
             return Err((catalog, AllocError));
         };
         Ok(Engine {
@@ -97,7 +100,7 @@ impl Engine {
         requires { live (past self.old) ≡ [] }
         ensures { BeginsSession self.old caller write.now read.now self.new result }
     {
-        let count = table_count(&self.catalog);
+        let count = self.catalog.tables();
         let Ok(session) = new_session(
             self.alloc,
             caller,
@@ -124,7 +127,7 @@ impl Engine {
 
     /// Does an act in a transaction in progress. A refusal is a reply, and stands in the history.
     pub fn act(&mut self, session: u64, act: &Act) -> Result<Reply, ActFault>
-        requires { Names (length self.old.defs) act.now }
+        requires { Names (length self.old.catalog.tables) act.now }
         ensures { Acts self.old session act.now self.new result }
     {
         match self.session.take() {
@@ -278,8 +281,9 @@ impl Engine {
         &self.history
     }
 
+    /// The catalog that the engine was made with.
     pub fn catalog(&self) -> &Catalog
-        ensures { result.now ≡ self.now.defs }
+        ensures { result.now ≡ self.now.catalog }
     {
         &self.catalog
     }
@@ -290,12 +294,6 @@ impl Engine {
     {
         self.limits
     }
-}
-
-fn table_count(catalog: &Catalog) -> u32
-    ensures { result ≡ length catalog.now }
-{
-    catalog.defs().len() as u32
 }
 
 fn empty(alloc: Global, defs: &[TableDef]) -> Result<Vec<Table>, AllocError>

@@ -1,10 +1,13 @@
 //! How derived tables are kept.
-ghost use Rattle.std.specs.Prelude.{◌≡◌, ◌+◌, ◌≤◌, ◌++◌, length, IfOk, OnOk};
-ghost use Rattle.strip_engine.specs.Keepers.{column_in, item_column, keeper_before, keeper_by, keepers_from, named_column};
+ghost use Rattle.std.specs.Prelude.{◌≡◌, IfOk};
+ghost use Rattle.strip_engine.specs.Built.{kept_in, kept_tables};
+ghost use Rattle.strip_engine.specs.Keepers.{column_in, keeper_by, keepers_of, named_column};
+ghost use Rattle.strip_meaning.specs.Contents.{def_at};
 ghost use Rattle.strip_meaning.specs.Maintained.{source_of};
+ghost use Rattle.strip_setup.specs.Maintain.{query_in};
 
 use std::alloc::{AllocError, Global};
-use strip_value::{Calc, Id, Input, Query, TableDef, What};
+use strip_value::{Calc, Function, Id, Input, Query, Step, TableDef, What};
 
 /// How a derived table is kept at each commit: its number, that of the table that it is made of, and the columns of that
 /// table that it groups by and sums.
@@ -49,31 +52,60 @@ fn named(query: &Query, item: usize) -> u32
     }
 }
 
-fn keeper_for(table: u32, query: &Query) -> Keeper
+/// How the table of a number with this query is kept.
+fn keeper_by(table: Id, query: &Query) -> Keeper
     ensures { result ≡ keeper_by table query.now }
 {
     Keeper {
-        table: Id(table),
+        table,
         source: source(query),
         group: named(query, 0),
         value: named(query, 1),
     }
 }
 
-/// One for each table that is declared to be kept.
-pub(crate) fn keepers_of(alloc: Global, defs: &[TableDef]) -> Result<Vec<Keeper>, AllocError>
-    requires { length defs.now ≤ 64 }
-    ensures { IfOk result (λ keepers. keepers.items ≡ keepers_from 0 defs.now) }
+/// How the table of a number is kept.
+fn keeper_for(defs: &[TableDef], table: Id) -> Keeper
+    ensures { result ≡ keeper_by table (query_in (def_at defs.now table)) }
 {
-    let mut keepers = Vec::new(alloc);
-    let mut table = 0;
-    for def in defs {
-        if def.declared {
-            if let Some(query) = &def.query {
-                keepers.push(keeper_for(table, query))?;
-            }
-        }
-        table += 1;
+    match defs.get(table.0 as usize) {
+        Some(
+            TableDef {
+                query: Some(query),
+                ..
+            },
+        ) => keeper_by(table, query),
+        _ => Keeper {
+            table,
+            source: Id(0),
+            group: 0,
+            value: 0,
+        },
+    }
+}
+
+/// The table that a function keeps: that of its first step.
+fn table_kept(function: &Function) -> Id
+    ensures { result ≡ kept_in function.now.steps }
+{
+    match function.steps.as_slice().first() {
+        Some(Step::Add { into, .. }) => *into,
+        Some(Step::Redo { table, .. }) => *table,
+        None => Id(0),
+    }
+}
+
+/// One for each table that is declared to be kept, in the order of the functions.
+pub(crate) fn keepers_of(
+    alloc: Global,
+    defs: &[TableDef],
+    functions: &[Function],
+) -> Result<Vec<Keeper>, AllocError>
+    ensures { IfOk result (λ keepers. keepers.items ≡ keepers_of defs.now (kept_tables functions.now)) }
+{
+    let mut keepers = Vec::with_capacity(alloc, functions.len())?;
+    for function in functions {
+        keepers.push(keeper_for(defs, table_kept(function)))?;
     }
     Ok(keepers)
 }

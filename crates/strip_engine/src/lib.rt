@@ -1,8 +1,6 @@
 //! The one-thread core: tables, transactions and their history.
 #![tactic(auto)]
 
-#[cfg(test)]
-mod action_tests;
 mod answers;
 mod causes;
 mod committing;
@@ -14,11 +12,8 @@ mod jobs;
 mod keepers;
 pub mod laws;
 mod queue;
-mod setup;
 mod starting;
 mod steps;
-#[cfg(test)]
-mod tests;
 mod undo;
 
 pub use answers::{
@@ -27,6 +22,6 @@ pub use answers::{
 pub use causes::row_misfit;
 pub use engine::Engine;
 pub use jobs::{Done, Job};
-pub use setup::Catalog;
+pub use strip_catalog::Catalog;
 pub use strip_model::{Entry, History};
 pub use strip_value::{Act, ActError, ColumnDef, Counts, Id, KeyOf, Reply, Row, TableDef, Value};

@@ -1,7 +1,6 @@
 ghost use Rattle.std.specs.Prelude.{◌≡◌, ◌<◌, ◌≤◌, ◌+◌, ◌^◌, length, vec_len, vec_capacity, IfOk, ◌++◌, ◌∷◌, []};
 ghost use Rattle.std.specs.List.{AllByRecursion};
-ghost use Rattle.strip_engine.specs.Setup.{AreTables};
-ghost use Rattle.strip_engine.specs.Steps.{PutsInto, PutsRow, RepliesTo, Performs, SameSession, defs_of};
+ghost use Rattle.strip_engine.specs.Steps.{AreTables, PutsInto, PutsRow, RepliesTo, Performs, SameSession, defs_of};
 ghost use Rattle.strip_model.specs.Legal.{Names};
 ghost use Rattle.strip_meaning.specs.Effect.{effect};
 ghost use Rattle.strip_value.specs.declared.acts.Act.TheVariants.{Show};

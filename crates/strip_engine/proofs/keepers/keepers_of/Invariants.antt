@@ -1,6 +1,7 @@
-use Rattle.std.proofs.Common.{◌≡◌, ◌++◌, drop}
-use Rattle.strip_engine.specs.Keepers.{keepers_from}
+use Rattle.std.proofs.Common.{◌≡◌, take}
+use Rattle.strip_engine.specs.Built.{kept_tables}
+use Rattle.strip_engine.specs.Keepers.{keepers_of}
 use Rattle.strip_engine.proofs.keepers.keepers_of.Given as goal
 
-abbrev pub invariant-loop-def : goal.invariant-loop-def
-invariant-loop-def l = (l.table ≡ l.def-index) × (l.keepers.items ++ keepers_from l.table (drop l.def-index l.defs) ≡ keepers_from 0 l.defs)
+abbrev pub invariant-loop-function : goal.invariant-loop-function
+invariant-loop-function l = l.keepers.items ≡ keepers_of l.defs (kept_tables (take l.function-index l.functions))

@@ -1,4 +1,4 @@
-use Rattle.std.proofs.Common.{◌≡◌, ◌<◌, ◌≤◌, length, arith, ap, sym, subst, ◌∙◌}
+use Rattle.std.proofs.Common.{◌≡◌, ◌<◌, ◌≤◌, None, length, arith, ap, sym, subst, ◌∙◌}
 use Rattle.strip_value.specs.declared.tables.TableDef.{TableDef}
 use Rattle.strip_value.specs.Table.{Keyed}
 use Rattle.strip_meaning.specs.Effect.{table_at}
@@ -7,14 +7,14 @@ use Rattle.strip_engine.proofs.Fits.{table_read, one_of, narrow}
 use Rattle.strip_engine.proofs.Restores.{put_answered, fits_unless}
 use Rattle.strip_engine.proofs.steps.put.Goals as goal
 
--- the table has few columns
+-- a table without a query has few columns
 pub cause_before_put-requires : goal.cause_before_put-requires
 cause_before_put-requires c =
     let there : c.args.id < length c.args.tables.now.items = omega arith in
     let read = table_read c.args.tables.now.items c.args.id c.id.inside.0 c.index.result.now there c.id.view_is c.index.ensures in
     let one = one_of c.args.tables.now.items c.args.id c.requires.tables_are there in
     let def : c.def-def.result.now ≡ (table_at c.args.tables.now.items c.args.id).def = c.def-def.ensures ∙ ap (λ (t : Keyed). t.def) read in
-    subst (λ (d : TableDef). length d.columns ≤ 16) (sym def) (narrow (defs_of c.args.tables.now.items) (table_at c.args.tables.now.items c.args.id).def one)
+    subst (λ (d : TableDef). d.query ≡ None → length d.columns ≤ 16) (sym def) (narrow (defs_of c.args.tables.now.items) (table_at c.args.tables.now.items c.args.id).def one)
 
 -- no cause applies before the table is asked
 pub put_into-requires-clause-fits : goal.put_into-requires-clause-fits

@@ -15,8 +15,8 @@ start_first-job-requires c =
     let q = c.prepare_start.new.queue in
     let h = c.prepare_start.new.history in
     let defs_known = subst (λ ds. PreparesStart ds c.as_slice.result.now q h (Ok c.in_ok-prepared.prepared)) c.defs.ensures.all c.in_ok-prepared.ensures.prepared in
-    let keepers_known = subst (λ ks. PreparesStart e.catalog ks q h (Ok c.in_ok-prepared.prepared)) c.as_slice.ensures.value defs_known in
-    let prepared = subst (λ (o : Option TableDef). PreparesStart e.catalog e.keepers.items q h (Ok o)) c.in-Some.is keepers_known in
+    let keepers_known = subst (λ ks. PreparesStart e.catalog.tables ks q h (Ok c.in_ok-prepared.prepared)) c.as_slice.ensures.value defs_known in
+    let prepared = subst (λ (o : Option TableDef). PreparesStart e.catalog.tables e.keepers.items q h (Ok o)) c.in-Some.is keepers_known in
     can_start e.catalog e.limits.bound_rows e.tables.items e.history.entries e.history.room e.session e.begins e.latest e.keepers.items e.queue q h c.in-Some.def c.self.invariant c.in_ok-prepared.ensures.same c.in_ok-prepared.ensures.entries prepared
 
 pub invariant_of-self-2 : goal.invariant_of-self-2
@@ -25,8 +25,8 @@ invariant_of-self-2 c =
     let q = c.prepare_start.new.queue in
     let h = c.prepare_start.new.history in
     let defs_known = subst (λ ds. PreparesStart ds c.as_slice.result.now q h (Ok c.in_ok-prepared.prepared)) c.defs.ensures.all c.in_ok-prepared.ensures.prepared in
-    let keepers_known = subst (λ ks. PreparesStart e.catalog ks q h (Ok c.in_ok-prepared.prepared)) c.as_slice.ensures.value defs_known in
-    let prepared = subst (λ (o : Option TableDef). PreparesStart e.catalog e.keepers.items q h (Ok o)) c.in-Some.is keepers_known in
+    let keepers_known = subst (λ ks. PreparesStart e.catalog.tables ks q h (Ok c.in_ok-prepared.prepared)) c.as_slice.ensures.value defs_known in
+    let prepared = subst (λ (o : Option TableDef). PreparesStart e.catalog.tables e.keepers.items q h (Ok o)) c.in-Some.is keepers_known in
     start_keeps e.catalog e.limits.bound_rows e.tables.items e.history.entries e.history.room e.session e.begins e.latest c.args.caller c.args.moment c.max-late.result e.keepers.items e.queue q h c.in-Some.def c.self.invariant (omega arith) c.in_ok-prepared.ensures.same c.in_ok-prepared.ensures.entries prepared (omega arith) c.start_first-job.new.queue c.start_first-job.new.history c.start_first-job.result (c.start_first-job.ensures prepared.0 prepared.1 prepared.2)
 
 pub returns : goal.returns
@@ -35,6 +35,6 @@ returns c =
     let q = c.prepare_start.new.queue in
     let h = c.prepare_start.new.history in
     let defs_known = subst (λ ds. PreparesStart ds c.as_slice.result.now q h (Ok c.in_ok-prepared.prepared)) c.defs.ensures.all c.in_ok-prepared.ensures.prepared in
-    let keepers_known = subst (λ ks. PreparesStart e.catalog ks q h (Ok c.in_ok-prepared.prepared)) c.as_slice.ensures.value defs_known in
-    let prepared = subst (λ (o : Option TableDef). PreparesStart e.catalog e.keepers.items q h (Ok o)) c.in-Some.is keepers_known in
+    let keepers_known = subst (λ ks. PreparesStart e.catalog.tables ks q h (Ok c.in_ok-prepared.prepared)) c.as_slice.ensures.value defs_known in
+    let prepared = subst (λ (o : Option TableDef). PreparesStart e.catalog.tables e.keepers.items q h (Ok o)) c.in-Some.is keepers_known in
     rw (← c.self.view_is) (start_says e.catalog e.limits.bound_rows e.tables.items e.history.entries e.history.room e.session e.begins e.latest c.args.caller c.args.moment c.max-late.result e.keepers.items e.queue q h c.in-Some.def c.self.invariant (omega arith) c.in_ok-prepared.ensures.same c.in_ok-prepared.ensures.entries prepared (omega arith) c.start_first-job.new.queue c.start_first-job.new.history c.start_first-job.result (c.start_first-job.ensures prepared.0 prepared.1 prepared.2))

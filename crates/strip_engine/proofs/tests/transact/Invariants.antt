@@ -1,8 +1,0 @@
-use Rattle.std.proofs.Common.{◌≡◌, ◌∷◌, [], length}
-use Rattle.strip_engine.specs.State.{past}
-use Rattle.strip_model.specs.History.{live}
-use Rattle.strip_engine.proofs.tests.transact.Given as goal
-
-abbrev pub invariant-loop-step : goal.invariant-loop-step
-invariant-loop-step l =
-    (live (past l.engine) ≡ record { session = l.session; caller = l.caller } ∷ []) × (length l.engine.defs ≡ 3)
