@@ -1,13 +1,1 @@
-pub mod PlainLaws
-pub mod BaseLaws
-pub mod TableLaws
-pub mod AloneLaws
-pub mod JobLaws
-pub mod KeepingLaws
-pub mod SoundLaws
-pub mod IdleLaws
-pub mod AnswerLaws
-pub mod TimelyLaws
-pub mod ShownLaws
-pub mod RunState
 pub mod StatusLaws

@@ -2,10 +2,10 @@
 use Rattle.std.proofs.Common.{◌≡◌, ℕ, ◌<◌, ◌≤◌, ◌==◌, Bool, true, false, nat_lt, List, [], ◌∷◌, length, Option, Result, Ok, Err, refl, sym, ap, ◌∙◌, arith, length-append}
 use Rattle.std.proofs.lemmas.Bool.Decides.{nat_tests}
 use Rattle.std.specs.Prelude.{if◌then◌else◌}
-use Rattle.strip.specs.declared.run.Ended.{Ended}
-use Rattle.strip.specs.declared.run.RunError.{RunError}
-use Rattle.strip.specs.declared.run.RunError.TheVariants.{Write, Read, TooMuch, Memory}
-use Rattle.strip.specs.Runs.{Told}
+use Rattle.strip_script.specs.declared.run.Ended.{Ended}
+use Rattle.strip_script.specs.declared.run.RunError.{RunError}
+use Rattle.strip_script.specs.declared.run.RunError.TheVariants.{Write, Read, TooMuch, Memory}
+use Rattle.strip_script.specs.Runs.{Told}
 use Rattle.strip.specs.Statuses.{status_of}
 
 not_past : (limit n : ℕ) → n ≤ limit → nat_lt limit n ≡ false

@@ -1,12 +1,1 @@
-pub mod Forms
-pub mod Readings
-pub mod Derived
-pub mod Refusals
-pub mod Script
-pub mod Session
-pub mod Keeping
-pub mod Shown
-pub mod Stages
-pub mod Runs
 pub mod Statuses
-pub mod Examples

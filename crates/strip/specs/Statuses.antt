@@ -2,10 +2,10 @@
 use Rattle.std.specs.Prelude.{◌≡◌, ℕ, ◌^◌, ◌==◌, Bool, false, if◌then◌else◌, nat_lt, List, [], ◌∷◌, codes, String, string_bytes, length, Option, Result, Ok, Err}
 use Rattle.std.specs.Str.{bytes_eq}
 use Rattle.std.specs.declared.alloc.Global.{Global}
-use Rattle.strip.specs.declared.run.Ended.{Ended}
-use Rattle.strip.specs.declared.run.RunError.{RunError}
-use Rattle.strip.specs.declared.run.RunError.TheVariants.{Write, Read, TooMuch, Memory}
-use Rattle.strip.specs.Runs.{Runs, Counts}
+use Rattle.strip_script.specs.declared.run.Ended.{Ended}
+use Rattle.strip_script.specs.declared.run.RunError.{RunError}
+use Rattle.strip_script.specs.declared.run.RunError.TheVariants.{Write, Read, TooMuch, Memory}
+use Rattle.strip_script.specs.Runs.{Runs, Counts}
 
 -- the most bytes of a source
 abbrev pub most_bytes : ℕ

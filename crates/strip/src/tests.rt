@@ -1,11 +1,10 @@
-use crate::run::{RunError, run_script};
 use crate::top::top;
 use std::alloc::{AllocError, Global};
 use std::sync::Wait;
 use std::test::Fail;
 use std::thread::Threads;
-use strip_engine::Limits;
 use strip_outside::{Clock, FreeGate, HostFiles, MemorySink, MemorySource};
+use strip_script::{Limits, RunError, run_script};
 
 const STOCKS: &[u8] =
     b"table stocks (symbol text, price int, key symbol); ready; put stocks ('IBM', 100); put stocks ('IBM', 101); show stocks;\n";
@@ -107,8 +106,24 @@ fn first_replies(alloc: Global, count: usize) -> Result<Vec<u8>, AllocError> {
     Ok(text)
 }
 
+// One statement of each kind, before `ready` and behind it.
+const EACH_KIND: &[u8] =
+    b"table t (id int, g int, v int, key id); stream s into t; derive d as select g, sum(v) as s, count(*) as n from t group by g; \
+derive e as select g, sum(v * v) as q from t where v < 9 group by g; function f redo d by b; \
+rule r on t when inserted then evaluate (select i.g from inserted i) bind as b execute f; maintain d by key; maintain d by sum after 1; \
+maintain d by sum; at 5; begin; ready; ready; table u (a int, key a); stream s into t; maintain e by sum; at 5; begin write t read d; commit; undo; \
+insert t (1, 7, 5); put t (1, 7, 5); update t set v = 6 where id = 1; delete t where id = 1; select g from t; show t; show e; show x; \
+start; start; finish 1; finish 1; return 1; run; show pending; as 1 show t; show d;";
+
+const EACH_KIND_REPLIES: &[u8] =
+    b"ok\nok\nok\nok\nrefused NotBuilt\nrefused NotBuilt\nrefused NotBuilt\nrefused NotBuilt\nok\nrefused NotReady\nrefused NotReady\nok\n\
+refused Closed\nrefused Closed\nrefused Closed\nrefused NotBuilt\nrefused NotBuilt\nrefused NotBuilt\nrefused NotBuilt\nrefused NotBuilt\n\
+refused NotBuilt\ncount 1\nrefused NotBuilt\nrefused NotBuilt\nrefused NotBuilt\nrows 1\n(1, 7, 5)\nrows 0\nrefused Unknown x\n\
+job 1 keep_d plain due 0 rows 1\nempty\nfinished 1\nrefused NotRunning 1\nrefused NotBuilt\nrefused NotBuilt\nrefused NotBuilt\n\
+refused NotBuilt\nrows 1\n(7, 5, 1)\n";
+
 // Scripts, what they are answered, and the status.
-const SCRIPTS: [(&[u8], &[u8], u8); 8] = [
+const SCRIPTS: [(&[u8], &[u8], u8); 12] = [
     (
         STOCKS,
         b"ok\nok\ncount 1\ncount 1\nrows 1\n('IBM', 101)\n",
@@ -126,14 +141,21 @@ const SCRIPTS: [(&[u8], &[u8], u8); 8] = [
         b"ok\nok\nrefused Unended\n",
         1,
     ),
+    (b"show t", b"refused Unended\n", 1),
+    (b"show pending;", b"refused NotReady\n", 1),
     (
         b"table t (n int, s text, key s); ready; put t (-1, 'b;''c'); put t (2, 'a'); show t;",
         b"ok\nok\ncount 1\ncount 1\nrows 2\n(2, 'a')\n(-1, 'b;''c')\n",
         0,
     ),
     (
-        b"show pending; ready; selec x; put t (1); select a from t;",
-        b"refused NotReady\nrefused NotBuilt\nrefused Parse 1 Unexpected\nrefused NotReady\nrefused NotReady\n",
+        b"selec x; ready; put t (1); select a from t;",
+        b"refused Parse 0 Unexpected\nok\nrefused NotBuilt\nrefused NotBuilt\n",
+        1,
+    ),
+    (
+        b"table t (id int, a int, b int, c int, key id); derive d as select id, sum(a * b * c) as s from t group by id;",
+        b"ok\nrefused TooWide 9903520314283042199192993792\n",
         1,
     ),
     (
@@ -141,6 +163,7 @@ const SCRIPTS: [(&[u8], &[u8], u8); 8] = [
         b"ok\nok\nok\nok\ncount 1\ncount 1\nrows 0\njob 1 keep_d plain due 0 rows 1\njob 2 keep_d plain due 0 rows 2\nfinished 2\nrows 1\n(7, 1, 0)\nfinished 1\nrows 1\n(7, 6, 1)\nrefused NotRunning 1\n",
         1,
     ),
+    (EACH_KIND, EACH_KIND_REPLIES, 1),
 ];
 
 // However the reads and the writes are cut.
@@ -157,6 +180,26 @@ fn scripts_are_answered(rt: HostRuntime) -> Result<(), Fail> {
             assert_eq!(rt; seen.out.as_slice(), wanted, "cut {cut}");
             assert_eq!(rt; seen.status, status, "cut {cut}");
         }
+    }
+    Ok(())
+}
+
+// A piece may have 65,536 bytes; a longer one is refused unread.
+#[test]
+fn a_piece_that_is_too_long_is_refused(rt: HostRuntime) -> Result<(), Fail> {
+    let cases: [(usize, &[u8]); 2] = [
+        (65_536, b"refused Parse 0 TooLong\nok\n"),
+        (65_537, b"refused Oversize 65537\nok\n"),
+    ];
+    for (length, wanted) in cases {
+        let mut script = Vec::new(rt.alloc());
+        for _byte in 0..length {
+            script.push(b'a')?;
+        }
+        script.extend_from_slice(b";ready;")?;
+        let seen = run_top(&rt, rt.alloc(), &["script"], script.as_slice(), WELL)?;
+        assert_eq!(rt; seen.out.as_slice(), wanted);
+        assert_eq!(rt; seen.status, 1);
     }
     Ok(())
 }

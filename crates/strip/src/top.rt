@@ -1,16 +1,15 @@
 //! The program, but for what it stands on: the words, the input, the files, the output and the clock are given.
 ghost use Rattle.std.specs.Prelude.{◌≡◌, ◌==◌, true, false, not, IfOk};
 ghost use Rattle.strip_outside.specs.Faults.{Rose};
-ghost use Rattle.strip.specs.Runs.{Counts, Runs};
-ghost use Rattle.strip.specs.Shown.{QuietShowsAreQueries};
+ghost use Rattle.strip_script.specs.Runs.{Counts, Runs};
+ghost use Rattle.strip_script.specs.Shown.{QuietShowsAreQueries};
 ghost use Rattle.strip.specs.Statuses.{RanScript, asks_script, most_bytes, status_of};
 
-use crate::run::{Ended, RunError, run_script};
 use std::alloc::Global;
 use std::sync::Wait;
 use std::thread::Threads;
-use strip_engine::Limits;
 use strip_outside::{Clock, Files, Sink, Source, WorkGate};
+use strip_script::{Ended, Limits, RunError, run_script};
 
 /// The most bytes of a source.
 const MOST_BYTES: u64 = 134_217_728;

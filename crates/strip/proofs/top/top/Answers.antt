@@ -1,6 +1,6 @@
 use Rattle.std.proofs.Common.{◌∙◌, ◌==◌, ap}
 use Rattle.strip.specs.Statuses.{most_bytes, most_bound}
-use Rattle.strip.proofs.ShownLaws.{quiet_shows_are_queries}
+use Rattle.strip_script.proofs.ShownLaws.{quiet_shows_are_queries}
 use Rattle.strip.proofs.StatusLaws.{past_limit}
 use Rattle.strip.proofs.top.top.Goals as goal
 

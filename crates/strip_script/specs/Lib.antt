@@ -1,0 +1,10 @@
+pub mod Built
+pub mod Refusals
+pub mod Script
+pub mod Session
+pub mod Keeping
+pub mod Shown
+pub mod Stages
+pub mod Runs
+pub mod EngineTests
+pub mod Examples
