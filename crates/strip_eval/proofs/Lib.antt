@@ -1,0 +1,10 @@
+pub mod Parts
+pub mod Totals
+pub mod Keys
+pub mod Search
+pub mod Distinct
+pub mod Grouping
+pub mod Fits
+pub mod Walked
+pub mod Grouped
+pub mod Asked
