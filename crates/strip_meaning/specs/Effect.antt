@@ -1,8 +1,8 @@
 -- What an act does: the tables after it, its reply, and the changes of rows. An act is all or nothing.
-use Rattle.std.specs.Prelude.{ℕ, ◌+◌, ◌^◌, Bool, true, false, not, ◌&&◌, ◌||◌, ◌==◌, if◌then◌else◌, int_le, int_lt, neg_ℤ, pos, List, [], ◌∷◌, ◌++◌, get_or, set, Option, Some, None, is_some}
+use Rattle.std.specs.Prelude.{ℕ, ◌+◌, ◌^◌, min, Bool, true, false, not, ◌&&◌, ◌||◌, ◌==◌, if◌then◌else◌, int_le, int_lt, neg_ℤ, pos, List, [], ◌∷◌, ◌++◌, filter, filter_map, get_or, option_map, set, Option, Some, None, is_some}
 use Rattle.std.specs.List.{list_any}
 use Rattle.strip_value.specs.declared.acts.Act.{Act}
-use Rattle.strip_value.specs.declared.acts.Act.TheVariants.{Put, Show}
+use Rattle.strip_value.specs.declared.acts.Act.TheVariants.{Put, Select, Show}
 use Rattle.strip_value.specs.declared.acts.ActError.{ActError}
 use Rattle.strip_value.specs.declared.acts.ActError.TheVariants.{NotHeld, ReadOnly, Derived, KindMismatch, OutOfRange, Full}
 use Rattle.strip_value.specs.declared.acts.Holds.{Holds}
@@ -13,10 +13,13 @@ use Rattle.strip_value.specs.declared.changes.Shift.{Shift}
 use Rattle.strip_value.specs.declared.changes.Shift.TheVariants.{Inserted, Changed}
 use Rattle.strip_value.specs.declared.kinds.Kind.{Kind}
 use Rattle.strip_value.specs.declared.kinds.Kind.TheVariants as kind
+use Rattle.strip_value.specs.declared.queries.Input.{Input}
+use Rattle.strip_value.specs.declared.queries.Input.TheVariants as input
 use Rattle.strip_value.specs.declared.tables.ColumnDef.{ColumnDef}
 use Rattle.strip_value.specs.declared.tables.TableDef.{TableDef}
 use Rattle.strip_value.specs.declared.values.Value.{Value}
 use Rattle.strip_value.specs.declared.values.Value.TheVariants.{Int, Text}
+use Rattle.strip_value.specs.Query.{mean_now}
 use Rattle.strip_value.specs.Table.{Keyed, key_of, row_at, with_row, full_at}
 
 -- the table of a number that is no table's
@@ -38,6 +41,30 @@ has_id ids id = list_any (λ one. one == id) ids
 -- the table is held neither to write nor to read
 abbrev pub not_held : Holds → ℕ → Option ActError
 not_held holds id = if has_id holds.write id || has_id holds.read id then None else Some (NotHeld id)
+
+-- the table that an entry of a query reads as it stands
+abbrev pub table_asked : Input → Option ℕ
+table_asked (input.Table id) = Some id
+table_asked _ = None
+
+-- the tables that a query reads as they stand, one for each entry
+abbrev pub tables_asked : List Input → List ℕ
+tables_asked entries = filter_map table_asked entries
+
+-- the smaller of two numbers, or the one that is there
+abbrev pub smaller : Option ℕ → Option ℕ → Option ℕ
+smaller None other = other
+smaller (Some id) None = Some id
+smaller (Some id) (Some other) = Some (min id other)
+
+-- the smallest of the numbers
+abbrev pub least : List ℕ → Option ℕ
+least [] = None
+least (id ∷ ids) = smaller (Some id) (least ids)
+
+-- the smallest of the tables that is held neither to write nor to read
+abbrev pub one_not_held : Holds → List ℕ → Option ActError
+one_not_held holds ids = option_map NotHeld (least (filter (λ id. not (has_id holds.write id || has_id holds.read id)) ids))
 
 -- the table isn't held to write
 abbrev pub read_only : Holds → ℕ → Option ActError
@@ -95,10 +122,11 @@ full id (Some limit) = Some (Full id limit)
 abbrev pub misfit : List ColumnDef → List Value → Option ActError
 misfit columns row = or_cause (kind_mismatch 1 columns row) (out_of_range 1 columns row)
 
--- why an act is refused: the first cause that applies. Of acts this has those that are built, `Put` and `Show`
+-- why an act is refused: the first cause that applies. Of acts this has those that are built, `Put`, `Select` and `Show`
 abbrev pub refusal : Holds → List Keyed → Act → Option ActError
 refusal holds tables (Put id row) =
     or_cause (not_held holds id) (or_cause (read_only holds id) (or_cause (derived (table_at tables id).def id) (or_cause (misfit (table_at tables id).def.columns row) (full id (full_at (table_at tables id) row)))))
+refusal holds tables (Select query) = one_not_held holds (tables_asked query.entries)
 refusal holds tables (Show id) = not_held holds id
 refusal holds tables _ = None
 
@@ -119,6 +147,7 @@ done tables (Put id row) = record {
   reply = Count 1;
   changes = record { table = id; shift = put_shift (row_at (table_at tables id).def.key (table_at tables id).rows (key_of (table_at tables id).def.key row)) row } ∷ [];
 }
+done tables (Select query) = record { tables = tables; reply = Rows (mean_now query tables); changes = [] }
 done tables (Show id) = record { tables = tables; reply = Rows (table_at tables id).rows; changes = [] }
 done tables _ = record { tables = tables; reply = Count 0; changes = [] }
 

@@ -1,12 +1,19 @@
 -- Small inputs on which the definitions compute.
 use Rattle.std.specs.Prelude.{◌≡◌, ℕ, List, [], ◌∷◌, Some, None, false, codes, pos, refl}
-use Rattle.strip_value.specs.declared.acts.Act.TheVariants.{Put, Show}
+use Rattle.strip_value.specs.declared.acts.Act.TheVariants.{Put, Select, Show}
 use Rattle.strip_value.specs.declared.acts.ActError.TheVariants.{NotHeld, ReadOnly, KindMismatch, OutOfRange, Full}
 use Rattle.strip_value.specs.declared.acts.Holds.{Holds}
 use Rattle.strip_value.specs.declared.acts.Reply.TheVariants.{Rows, Count, Refused}
+use Rattle.strip_value.specs.declared.expressions.Calc.{Column}
+use Rattle.strip_value.specs.declared.expressions.Test as test
 use Rattle.strip_value.specs.declared.kinds.Kind.TheVariants as kind
+use Rattle.strip_value.specs.declared.queries.Input.{Input}
+use Rattle.strip_value.specs.declared.queries.Input.TheVariants as input
+use Rattle.strip_value.specs.declared.queries.Query.{Query}
+use Rattle.strip_value.specs.declared.queries.What.TheVariants.{Plain}
 use Rattle.strip_value.specs.declared.values.Value.{Value}
 use Rattle.strip_value.specs.declared.values.Value.TheVariants.{Int, Text}
+use Rattle.strip_value.specs.Query.{mean, mean_now}
 use Rattle.strip_value.specs.Table.{Keyed}
 use Rattle.strip_meaning.specs.Effect.{effect, run}
 
@@ -70,3 +77,18 @@ too_long = refl
 pub too_great : (effect to_write (stocks 2 ∷ []) (Put 0 (Text [] ∷ Int (pos 2147483648) ∷ []))).reply ≡ Refused (OutOfRange 2 (pos 2147483648))
 unfolding effect
 too_great = refl
+
+-- the prices of some tables
+abbrev prices_of : List Input → Query
+prices_of entries = record { items = record { name = codes "price"; what = Plain (Column 0 1) } ∷ []; entries = entries; filter = test.True; group = None }
+
+-- a query is refused for the smallest table that it may not read, whichever entry is first
+pub asked_unheld : (effect (record { write = 2 ∷ []; read = [] }) [] (Select (prices_of (input.Table 2 ∷ input.Table 1 ∷ input.Table 0 ∷ [])))).reply ≡ Refused (NotHeld 0)
+unfolding effect
+asked_unheld = refl
+
+-- it answers the rows that the tables have by then, and changes nothing
+pub asked_rows : (run to_write (stocks 2 ∷ []) (Select (prices_of (input.Table 0 ∷ [])) ∷ Put 0 other ∷ Put 0 (priced 100) ∷ [])).replies
+    ≡ Rows ((Int (pos 50) ∷ []) ∷ (Int (pos 100) ∷ []) ∷ []) ∷ Count 1 ∷ Count 1 ∷ []
+unfolding effect mean mean_now
+asked_rows = refl

@@ -1,14 +1,16 @@
 -- Which histories are legal: each entry meets its line, given the entries before it.
 use Rattle.std.specs.Prelude.{◌≡◌, ℕ, ◌+◌, ◌^◌, ◌<◌, ◌≤◌, Bool, not, ◌&&◌, ◌||◌, ◌==◌, List, [], ◌∷◌, length, map, find, get_or, IsTrue, Option, Some}
-use Rattle.std.specs.List.{list_all, list_any}
+use Rattle.std.specs.List.{AllByRecursion, list_all, list_any}
 use Rattle.strip_value.specs.declared.actions.ActionId.{ActionId}
 use Rattle.strip_value.specs.declared.acts.Act.{Act}
-use Rattle.strip_value.specs.declared.acts.Act.TheVariants.{Put, Show}
+use Rattle.strip_value.specs.declared.acts.Act.TheVariants.{Put, Select, Show}
 use Rattle.strip_value.specs.declared.acts.Holds.{Holds}
 use Rattle.strip_value.specs.declared.acts.Reply.{Reply}
 use Rattle.strip_model.specs.declared.entries.Entry.{Entry}
 use Rattle.strip_model.specs.declared.entries.Entry.TheVariants.{Begin, Did, Commit, Undo, Start, Finish}
 use Rattle.strip_meaning.specs.Effect.{effect, has_id}
+use Rattle.strip_value.specs.declared.queries.Input.{Input}
+use Rattle.strip_value.specs.declared.queries.Input.TheVariants as input
 use Rattle.strip_value.specs.declared.rules.Step.{Step}
 use Rattle.strip_value.specs.declared.rules.Step.TheVariants.{Add, Redo}
 use Rattle.strip_meaning.specs.Contents.{no_function}
@@ -33,9 +35,15 @@ conflict one other = meet one.write other.write || meet one.write other.read || 
 abbrev pub IsOpen : List Entry → ℕ → ℕ → Type 0
 IsOpen past caller session = IsTrue (list_any (λ l. l.session == session && l.caller == caller) (live past))
 
--- the act is one that is built, `Put` or `Show`, and the table that it names is there
+-- the entry of a query is a table that is there
+abbrev pub IsTableThere : ℕ → Input → Type 0
+IsTableThere count (input.Table id) = id < count
+IsTableThere count _ = ⊥
+
+-- the act is one that is built, `Put`, `Select` or `Show`, and the tables that it names are there
 abbrev pub Names : ℕ → Act → Type 0
 Names count (Put id row) = id < count
+Names count (Select query) = AllByRecursion (IsTableThere count) query.entries
 Names count (Show id) = id < count
 Names count _ = ⊥
 
