@@ -38,7 +38,7 @@ use Rattle.strip_value.specs.Query.{in_order, number_of, put_in_order}
 use Rattle.strip_value.specs.Table.{Keyed, column_of, full_at, has_key, key_of, row_at, with_row, put_between, without}
 use Rattle.strip_value.proofs.KeyedLaws.{find_all}
 use Rattle.strip_value.proofs.Lists.{all_append, all_at, all_filter, all_weaker}
-use Rattle.strip_meaning.specs.Effect.{Effect, Run, derived, done, effect, full, misfit, no_table, not_held, or_cause, put_shift, read_only, refusal, run, table_at, unless}
+use Rattle.strip_meaning.specs.Effect.{Effect, Run, derived, done, effect, full, misfit, no_table, not_held, one_not_held, or_cause, put_shift, read_only, refusal, run, table_at, tables_asked, unless}
 use Rattle.strip_meaning.specs.Sums.{IsDerived, IsUnder, as_derived, folded, totals_of}
 use Rattle.strip_meaning.specs.Actions.{BoundRow, Happened, actions, all_rows, as_bound, firsts, kept, rows_bound, rows_of, rows_of_rule, same_action}
 use Rattle.strip_meaning.specs.Contents.{added_rows, contents, def_at, named_like, no_function, rows_in}
@@ -263,7 +263,8 @@ module _ (defs : List TableDef) (are : AreTables defs) where
   effect_fits holds ts (Insert id rows) t names = absurd names
   effect_fits holds ts (Update id sets filter) t names = absurd names
   effect_fits holds ts (Delete id filter) t names = absurd names
-  effect_fits holds ts (Select query) t names = absurd names
+  effect_fits holds ts (Select query) t names =
+      unless_fits (one_not_held holds (tables_asked query.entries)) ts (done ts (Select query)) t (λ none. record { tables = t; changes = tt })
 
   -- what acts make of them one after another
   pub record RunFits (r : Run) : Type 0 where

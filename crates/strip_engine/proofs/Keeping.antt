@@ -32,7 +32,7 @@ use Rattle.strip_model.specs.declared.entries.Entry.TheVariants.{Begin, Did, Com
 use Rattle.strip_model.specs.History.{empty_tables, begins, acts, holds, Live, live, ended, base, latest, Running, jobs, job_count}
 use Rattle.strip_model.specs.Derived.{Fixed, beginning, tables, at_begin, working, bound_count, fired_at, happened, with_derived, with_fired}
 use Rattle.strip_model.specs.Kept.{Kept}
-use Rattle.strip_model.specs.Legal.{Legal, Names, IsOpen, Rise, conflict, Begins, job_of, holds_one, written}
+use Rattle.strip_model.specs.Legal.{Legal, IsOpen, Rise, conflict, Begins, job_of, holds_one, written}
 use Rattle.strip_model.specs.Says.{chosen, read_besides, Said, Task, fired, spent, taken, no_session, none_pending, not_running, refused, live_session, row_count, said_commit, said_within, said_start, said_in_hand, said_later, said_finish, task_of, start_entry, says, to_commit, to_start, to_finish}
 use Rattle.strip_model.specs.Says as said_of
 use Rattle.strip_model.proofs.HistoryLaws.{itself, no_acts, latest_in_time, chosen_rises, chosen_apart, defs_of_empty, begins_at_most}
@@ -57,6 +57,8 @@ use Rattle.strip_engine.specs.Keepers.{all_keepers, keeper_at, kept_def, no_keep
 use Rattle.strip_engine.specs.Keeps.{Keeps, Stands, AtRest, InProgress}
 use Rattle.strip_engine.specs.Made.{IsMade}
 use Rattle.strip_engine.specs.Queue.{IsStarted, IsWaiting, NumbersRise, Queues, Stops, as_firing, first_of, no_bound, no_started, place_from, plain_id, running_of}
+use Rattle.strip_engine.specs.Asked.{IsAsked}
+use Rattle.strip_engine.proofs.Asked.{asked_names}
 use Rattle.strip_engine.specs.Steps.{Performs, SameSession}
 use Rattle.strip_engine.specs.State.{State, fixed_of, with_entry}
 use Rattle.strip_engine.specs.Undo.{all_restored, changes_of, IsLogged}
@@ -263,8 +265,8 @@ is_open past s only =
     ∙ ap (λ b. (b && (s.caller == s.caller)) || false) (itself s.number)
     ∙ ap (λ b. (true && b) || false) (itself s.caller)
 
-pub keeps_act : (f : Fixed) (was_then : List Keyed) (entries : List Entry) (room : ℕ) (s : Session) (total moment : ℕ) (keepers : List Keeper) (queue : Queue) (act : Act) (after : Session) (new : List Keyed) (grown : List Entry) (left : ℕ) (r : Result Reply AllocError) → Keeps f was_then entries room (Some s) total moment keepers queue → Names (length f.defs) act → Performs s was_then entries act after new grown r → SameSession s after → length queue.running.items + 1 ≤ left → Keeps f new grown left (Some after) total moment keepers queue
-keeps_act f was_then entries room s total moment keepers queue act after new grown left (Ok reply) keeps names did same more =
+pub keeps_act : (f : Fixed) (was_then : List Keyed) (entries : List Entry) (room : ℕ) (s : Session) (total moment : ℕ) (keepers : List Keeper) (queue : Queue) (act : Act) (after : Session) (new : List Keyed) (grown : List Entry) (left : ℕ) (r : Result Reply AllocError) → Keeps f was_then entries room (Some s) total moment keepers queue → IsAsked f.defs act → Performs s was_then entries act after new grown r → SameSession s after → length queue.running.items + 1 ≤ left → Keeps f new grown left (Some after) total moment keepers queue
+keeps_act f was_then entries room s total moment keepers queue act after new grown left (Ok reply) keeps asked did same more =
     let past = reverse entries in
     let was = keeps.stands in
     let said = (effect s.holds was_then act).reply in
@@ -290,7 +292,7 @@ keeps_act f was_then entries room s total moment keepers queue act after new gro
       bounded = keeps.bounded;
       keeping = keeps.keeping;
       defined = did.3.defined ∙ keeps.defined;
-      legal = rw newer ((is_open past s was.only, names, replied), keeps.legal);
+      legal = rw newer ((is_open past s was.only, asked_names f.defs act asked, replied), keeps.legal);
       counted = keeps.counted ∙ sym (ap begins newer);
       timed = keeps.timed ∙ sym (ap latest newer);
       queued = rw newer keeps.queued;
@@ -305,7 +307,7 @@ keeps_act f was_then entries room s total moment keepers queue act after new gro
         room_to_end = more;
       });
     }
-keeps_act f was_then entries room s total moment keepers queue act after new grown left (Err e) keeps names did same more =
+keeps_act f was_then entries room s total moment keepers queue act after new grown left (Err e) keeps asked did same more =
     let was = keeps.stands in
     let past = reverse entries in
     let newer : reverse grown ≡ past = ap reverse did.1 in

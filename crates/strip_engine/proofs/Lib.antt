@@ -1,4 +1,5 @@
 pub mod Fits
+pub mod Asked
 pub mod Restores
 pub mod Holding
 pub mod Overlay

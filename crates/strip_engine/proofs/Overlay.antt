@@ -10,7 +10,7 @@ use Rattle.strip_value.specs.declared.queries.Query.{Query}
 use Rattle.strip_value.specs.declared.tables.TableDef.{TableDef}
 use Rattle.strip_value.specs.declared.values.Value.{Value}
 use Rattle.strip_value.specs.Table.{Keyed, key_of, row_at, with_row, full_at}
-use Rattle.strip_meaning.specs.Effect.{Effect, Run, effect, unless, refusal, done, run, put_shift, table_at, or_cause, not_held, read_only, derived, misfit, full}
+use Rattle.strip_meaning.specs.Effect.{Effect, Run, effect, unless, refusal, done, run, put_shift, table_at, or_cause, not_held, one_not_held, read_only, derived, misfit, full, tables_asked}
 use Rattle.strip_model.specs.Derived.{with_derived}
 
 -- the rows of a derived table, by its number
@@ -132,7 +132,8 @@ module _ (holds : Holds) (r : Rows) (base : List Keyed) where
   same_effect (Insert id rows) = record { tables = refl; changes = refl }
   same_effect (Update id sets filter) = record { tables = refl; changes = refl }
   same_effect (Delete id filter) = record { tables = refl; changes = refl }
-  same_effect (Select query) = record { tables = refl; changes = refl }
+  same_effect (Select query) =
+      unless_same (one_not_held holds (tables_asked query.entries)) (done all (Select query)) (done base (Select query)) (λ none. record { tables = refl; changes = refl })
 
 -- what acts change, one after another, in both
 pub record SameRun (r : Rows) (all : Run) (base : Run) : Type 0 where

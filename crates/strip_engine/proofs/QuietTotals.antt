@@ -198,7 +198,7 @@ module _ (of : List Value → ℤ) (source : ℕ) where
   done_adds ts (Insert id rows) rise names = absurd names
   done_adds ts (Update id sets filter) rise names = absurd names
   done_adds ts (Delete id filter) rise names = absurd names
-  done_adds ts (Select query) rise names = absurd names
+  done_adds ts (Select query) rise names = nothing_adds ts rise
   done_adds ts (Put id row) rise names =
       let table = table_at ts id in
       let here = all_or RowsRise ts id no_table rise tt in

@@ -5,7 +5,7 @@ use Rattle.std.specs.List.{AllByRecursion}
 use Rattle.std.proofs.lemmas.List.{set-get_or, get_or-set_same, reverse-append, length-map, get_or_default, map-append, append-nil}
 use Rattle.std.proofs.Math.Seq.{map-set_same}
 use Rattle.strip_value.specs.declared.acts.Act.{Act}
-use Rattle.strip_value.specs.declared.acts.Act.TheVariants.{Put, Show}
+use Rattle.strip_value.specs.declared.acts.Act.TheVariants.{Put}
 use Rattle.strip_value.specs.declared.acts.Reply.{Reply}
 use Rattle.strip_value.specs.declared.acts.Reply.TheVariants.{Count, Refused}
 use Rattle.strip_value.specs.declared.acts.ActError.{ActError}
@@ -199,7 +199,7 @@ restoring_ends tables now changes left r none = sym (ap (λ log. all_restored (r
 none_more : (was now : List Logged) (changes : List Change) → now ≡ was → changes ≡ [] → changes_of now ≡ changes_of was ++ changes
 none_more was now changes e f = ap changes_of e ∙ sym (append-nil (changes_of was)) ∙ ap (λ cs. changes_of was ++ cs) (sym f)
 
--- the three ways of an act: a row is put, the put is refused, a table is shown
+-- the three ways of an act: a row is put, the put is refused, rows are read
 pub reply_counted : (holds : Holds) (tables : List Keyed) (was : List Logged) (act : Act) (id : ℕ) (row : List Value) (new : List Keyed) (now : List Logged) → act ≡ Put id row → PutsRow holds tables was id row new now (Ok None) → RepliesTo holds tables was act new now (Ok (Count 1, Count 1))
 unfolding effect
 reply_counted holds tables was act id row new now is put =
@@ -214,22 +214,22 @@ reply_refused holds tables was act id row new now cause (Ok both) is put same =
     (same.0 ∙ sym (ap (λ (e : Effect). e.reply) what), same.1 ∙ sym (ap (λ (e : Effect). e.reply) what), put.1 ∙ sym (ap (λ (e : Effect). e.tables) what), unchanged tables new was now put.1 put.2, none_more was now [] put.2 refl ∙ sym (ap (λ (e : Effect). changes_of was ++ e.changes) what))
 reply_refused holds tables was act id row new now cause (Err e) is put same = (put.1, put.2)
 
-show_keeps : (tables : List Keyed) (id : ℕ) (cause : Option ActError) → (unless cause tables (done tables (Show id))).tables ≡ tables
-show_keeps tables id None = refl
-show_keeps tables id (Some cause) = refl
+keeps_tables : (tables : List Keyed) (one : Effect) (cause : Option ActError) → one.tables ≡ tables → (unless cause tables one).tables ≡ tables
+keeps_tables tables one None same = same
+keeps_tables tables one (Some cause) same = refl
 
-show_changes : (tables : List Keyed) (id : ℕ) (cause : Option ActError) → (unless cause tables (done tables (Show id))).changes ≡ []
-show_changes tables id None = refl
-show_changes tables id (Some cause) = refl
+no_changes : (tables : List Keyed) (one : Effect) (cause : Option ActError) → one.changes ≡ [] → (unless cause tables one).changes ≡ []
+no_changes tables one None none = none
+no_changes tables one (Some cause) none = refl
 
-pub reply_shown : (holds : Holds) (tables : List Keyed) (was : List Logged) (act : Act) (id : ℕ) (reply : Reply) (r : Result (Reply × Reply) AllocError) → act ≡ Show id → reply ≡ (effect holds tables (Show id)).reply → IfOk r (λ both. (both.0 ≡ reply) × (both.1 ≡ reply)) → RepliesTo holds tables was act tables was r
+pub reply_read : (holds : Holds) (tables : List Keyed) (was : List Logged) (act read : Act) (reply : Reply) (r : Result (Reply × Reply) AllocError) → act ≡ read → (done tables read).tables ≡ tables → (done tables read).changes ≡ [] → reply ≡ (effect holds tables read).reply → IfOk r (λ both. (both.0 ≡ reply) × (both.1 ≡ reply)) → RepliesTo holds tables was act tables was r
 unfolding effect
-reply_shown holds tables was act id reply (Ok both) is shown same =
-    let what : effect holds tables act ≡ effect holds tables (Show id) = ap (effect holds tables) is in
+reply_read holds tables was act read reply (Ok both) is same none shown twice =
+    let what : effect holds tables act ≡ effect holds tables read = ap (effect holds tables) is in
     let said = shown ∙ sym (ap (λ (e : Effect). e.reply) what) in
-    let kept : tables ≡ (effect holds tables act).tables = sym (ap (λ (e : Effect). e.tables) what ∙ show_keeps tables id (not_held holds id)) in
-    (same.0 ∙ said, same.1 ∙ said, kept, unchanged tables tables was was refl refl, none_more was was (effect holds tables act).changes refl (ap (λ (e : Effect). e.changes) what ∙ show_changes tables id (not_held holds id)))
-reply_shown holds tables was act id reply (Err e) is shown same = (refl, refl)
+    let kept : tables ≡ (effect holds tables act).tables = sym (ap (λ (e : Effect). e.tables) what ∙ keeps_tables tables (done tables read) (refusal holds tables read) same) in
+    (twice.0 ∙ said, twice.1 ∙ said, kept, unchanged tables tables was was refl refl, none_more was was (effect holds tables act).changes refl (ap (λ (e : Effect). e.changes) what ∙ no_changes tables (done tables read) (refusal holds tables read) none))
+reply_read holds tables was act read reply (Err e) is same none shown twice = (refl, refl)
 
 -- a table with other rows, read and written by index, keeps the definitions
 pub defs_set : (tables : List Keyed) (at : ℕ) (table new : Keyed) → at < length tables → table ≡ get_or tables at table → new.def ≡ table.def → defs_of (set tables at new) ≡ defs_of tables

@@ -1,4 +1,5 @@
 ghost use Rattle.std.specs.Prelude.{◌≡◌, ◌≤◌, ◌^◌, ◌+◌, ◌<◌, true, [], length, IfOk};
+ghost use Rattle.strip_engine.specs.Asked.{IsAsked};
 ghost use Rattle.strip_engine.specs.Built.{IsBuilt};
 ghost use Rattle.strip_engine.specs.Calls.{IsNew, BeginsSession, Acts, Commits, Undoes, Starts, Finishes, HasContent};
 ghost use Rattle.strip_engine.specs.Made.{IsMade, AddsBegin};
@@ -6,7 +7,7 @@ ghost use Rattle.strip_engine.specs.Quiet.{QuietWhere};
 ghost use Rattle.strip_engine.specs.State.{fixed, fixed_of, past};
 ghost use Rattle.strip_model.specs.Counted.{counts};
 ghost use Rattle.strip_model.specs.History.{empty_tables, live};
-ghost use Rattle.strip_model.specs.Legal.{Legal, Names};
+ghost use Rattle.strip_model.specs.Legal.{Legal};
 
 use crate::answers::{
     ActFault, BeginError, CommitError, FinishError, FinishFault, Fired, Limits, NoSession, Taken,
@@ -125,9 +126,9 @@ impl Engine {
         Ok(number)
     }
 
-    /// Does an act in a transaction in progress. A refusal is a reply, and stands in the history.
+    /// Does an act in a transaction in progress. A refusal is a reply, and stands in the history. So are the rows of a query.
     pub fn act(&mut self, session: u64, act: &Act) -> Result<Reply, ActFault>
-        requires { Names (length self.old.catalog.tables) act.now }
+        requires { IsAsked self.old.catalog.tables act.now }
         ensures { Acts self.old session act.now self.new result }
     {
         match self.session.take() {

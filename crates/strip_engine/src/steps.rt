@@ -1,12 +1,13 @@
 ghost use Rattle.std.specs.Prelude.{◌≡◌, ◌<◌, ◌≤◌, ◌+◌, ◌^◌, length, vec_len, vec_capacity, IfOk, ◌++◌, ◌∷◌, []};
 ghost use Rattle.std.specs.List.{AllByRecursion};
+ghost use Rattle.strip_engine.specs.Asked.{IsAsked};
 ghost use Rattle.strip_engine.specs.Steps.{AreTables, PutsInto, PutsRow, RepliesTo, Performs, SameSession, defs_of};
-ghost use Rattle.strip_model.specs.Legal.{Names};
 ghost use Rattle.strip_meaning.specs.Effect.{effect};
 ghost use Rattle.strip_value.specs.declared.acts.Act.TheVariants.{Show};
 ghost use Rattle.strip_value.specs.Kinds.{FitsColumns};
 ghost use Rattle.strip_value.specs.Table.{key_of, column_of, IsTable};
 
+use crate::asking::select;
 use crate::causes::{cause_before_put, cause_not_held};
 use crate::undo::{Logged, Session};
 use std::alloc::{AllocError, Global};
@@ -142,7 +143,7 @@ fn replies(
     log: &mut Vec<Logged>,
     act: &Act,
 ) -> Result<(Reply, Reply), AllocError>
-    requires names { Names (vec_len tables.old) act.now }
+    requires asked { IsAsked (defs_of tables.old.items) act.now }
     requires tables_are { AreTables (defs_of tables.old.items) }
     ensures { RepliesTo holds.now tables.old.items log.old.items act.now tables.new.items log.new.items result }
 {
@@ -151,6 +152,10 @@ fn replies(
             None => Ok((Reply::Count(1), Reply::Count(1))),
             Some(cause) => twice(alloc, Reply::Refused(cause)),
         },
+        Act::Select { query } => {
+            let reply = select(alloc, tables.as_slice(), holds, query)?;
+            twice(alloc, reply)
+        }
         Act::Show { table } => {
             let reply = show(alloc, tables.as_slice(), holds, *table)?;
             twice(alloc, reply)
@@ -168,7 +173,7 @@ pub(crate) fn perform(
     act: &Act,
     left: usize,
 ) -> Result<Reply, AllocError>
-    requires names { Names (vec_len tables.old) act.now }
+    requires asked { IsAsked (defs_of tables.old.items) act.now }
     requires tables_are { AreTables (defs_of tables.old.items) }
     requires room { left ≤ history.old.room }
     requires small { left < 2 ^ 63 + 1 }
