@@ -17,3 +17,4 @@ finish 1;
 finish 2;
 finish 3;
 show comps;
+select comp, sum(price) as total, count(*) as n from parts group by comp;

@@ -118,12 +118,29 @@ start; start; finish 1; finish 1; return 1; run; show pending; as 1 show t; show
 const EACH_KIND_REPLIES: &[u8] =
     b"ok\nok\nok\nok\nrefused NotBuilt\nrefused NotBuilt\nrefused NotBuilt\nrefused NotBuilt\nok\nrefused NotReady\nrefused NotReady\nok\n\
 refused Closed\nrefused Closed\nrefused Closed\nrefused NotBuilt\nrefused NotBuilt\nrefused NotBuilt\nrefused NotBuilt\nrefused NotBuilt\n\
-refused NotBuilt\ncount 1\nrefused NotBuilt\nrefused NotBuilt\nrefused NotBuilt\nrows 1\n(1, 7, 5)\nrows 0\nrefused Unknown x\n\
+refused NotBuilt\ncount 1\nrefused NotBuilt\nrefused NotBuilt\nrows 1\n(7)\nrows 1\n(1, 7, 5)\nrows 0\nrefused Unknown x\n\
 job 1 keep_d plain due 0 rows 1\nempty\nfinished 1\nrefused NotRunning 1\nrefused NotBuilt\nrefused NotBuilt\nrefused NotBuilt\n\
 refused NotBuilt\nrows 1\n(7, 5, 1)\n";
 
+const QUERIES: &[u8] =
+    b"table t (id int, g int, v int, key id); ready; put t (1, 7, 5); put t (2, 7, 6); put t (3, 8, 1); \
+select g from t; select g, sum(v) as s, count(*) as n from t group by g; \
+select a.id, b.id as o from t a, t b where a.g = b.g and a.id < b.id; select g, sum(v) as s from t where v > 100 group by g;";
+
+const QUERIES_REPLIES: &[u8] =
+    b"ok\nok\ncount 1\ncount 1\ncount 1\nrows 3\n(7)\n(7)\n(8)\nrows 2\n(7, 11, 2)\n(8, 1, 1)\nrows 1\n(1, 2)\nrows 0\n";
+
+const REFUSED_QUERIES: &[u8] =
+    b"table t (id int, s text, key id); derive d as select s, count(*) as n from t group by s; select id from t; ready; put t (1, 'b'); put t (2, 'a'); \
+select x from t; select id from u; select id from t where s = 1; select id from t where 'b' = 1; select id, count(*) as n from t; \
+select s from t where s < 'b'; select t.s from t, d where t.id < 9;";
+
+const REFUSED_QUERIES_REPLIES: &[u8] =
+    b"ok\nok\nrefused NotReady\nok\ncount 1\ncount 1\nrefused Unknown x\nrefused Unknown id\nrefused KindMismatch s\nrefused KindMismatch -\nrefused NotGrouped\n\
+rows 1\n('a')\nrows 0\n";
+
 // Scripts, what they are answered, and the status.
-const SCRIPTS: [(&[u8], &[u8], u8); 12] = [
+const SCRIPTS: [(&[u8], &[u8], u8); 14] = [
     (
         STOCKS,
         b"ok\nok\ncount 1\ncount 1\nrows 1\n('IBM', 101)\n",
@@ -150,7 +167,7 @@ const SCRIPTS: [(&[u8], &[u8], u8); 12] = [
     ),
     (
         b"selec x; ready; put t (1); select a from t;",
-        b"refused Parse 0 Unexpected\nok\nrefused NotBuilt\nrefused NotBuilt\n",
+        b"refused Parse 0 Unexpected\nok\nrefused NotBuilt\nrefused Unknown a\n",
         1,
     ),
     (
@@ -163,6 +180,8 @@ const SCRIPTS: [(&[u8], &[u8], u8); 12] = [
         b"ok\nok\nok\nok\ncount 1\ncount 1\nrows 0\njob 1 keep_d plain due 0 rows 1\njob 2 keep_d plain due 0 rows 2\nfinished 2\nrows 1\n(7, 1, 0)\nfinished 1\nrows 1\n(7, 6, 1)\nrefused NotRunning 1\n",
         1,
     ),
+    (QUERIES, QUERIES_REPLIES, 0),
+    (REFUSED_QUERIES, REFUSED_QUERIES_REPLIES, 1),
     (EACH_KIND, EACH_KIND_REPLIES, 1),
 ];
 

@@ -6,7 +6,7 @@ use Rattle.std.proofs.lemmas.Bool.{le-ltb, ltb-false}
 use Rattle.strip_value.specs.declared.acts.Act.{Act}
 use Rattle.strip_value.specs.declared.acts.Act.TheVariants as act
 use Rattle.strip_value.specs.declared.acts.Reply.{Reply}
-use Rattle.strip_meaning.specs.Effect.{has_id}
+use Rattle.strip_meaning.specs.Effect.{has_id, tables_asked}
 use Rattle.strip_model.specs.declared.entries.Entry.{Entry}
 use Rattle.strip_model.specs.declared.entries.Entry.TheVariants.{Did, Commit, Undo}
 use Rattle.strip_model.specs.History.{Live, begins, ended, holds, live}
@@ -120,7 +120,7 @@ alone_ends f past (act.Show table) none = none_left f past [] (table ∷ []) (ac
 alone_ends f past (act.Insert table rows) none = none_left f past [] [] (act.Insert table rows) none
 alone_ends f past (act.Update table sets filter) none = none_left f past [] [] (act.Update table sets filter) none
 alone_ends f past (act.Delete table filter) none = none_left f past [] [] (act.Delete table filter) none
-alone_ends f past (act.Select query) none = none_left f past [] [] (act.Select query) none
+alone_ends f past (act.Select query) none = none_left f past [] (tables_asked query.entries) (act.Select query) none
 
 pub alone_legal : (f : Fixed) (past : List Entry) (one : Act) → live past ≡ [] → Names (length f.defs) one → Legal f past → Legal f (done_alone f past one).past
 alone_legal f past (act.Put table row) none names legal = legal_ended f past (table ∷ []) [] (act.Put table row) none legal names
@@ -128,4 +128,4 @@ alone_legal f past (act.Show table) none names legal = legal_ended f past [] (ta
 alone_legal f past (act.Insert table rows) none names legal = absurd names
 alone_legal f past (act.Update table sets filter) none names legal = absurd names
 alone_legal f past (act.Delete table filter) none names legal = absurd names
-alone_legal f past (act.Select query) none names legal = absurd names
+alone_legal f past (act.Select query) none names legal = legal_ended f past [] (tables_asked query.entries) (act.Select query) none legal names

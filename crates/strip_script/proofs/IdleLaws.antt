@@ -14,7 +14,7 @@ use Rattle.strip_model.specs.Legal.{Legal, Names, job_of, reply_of}
 use Rattle.strip_model.specs.Says.{Said, Task, chosen, late, not_running, read_besides, said_finish, says, task_of, to_act, to_finish, to_start}
 use Rattle.strip_model.specs.Says as said_of
 use Rattle.strip_meaning.specs.Actions.{due_of, next, rows_of}
-use Rattle.strip_meaning.specs.Effect.{has_id}
+use Rattle.strip_meaning.specs.Effect.{has_id, tables_asked}
 use Rattle.strip_engine.specs.State.{fixed, past}
 use Rattle.strip_engine.proofs.KeeperRules.{rules_plain}
 use Rattle.strip_script.specs.Keeping.{IsJob, Keeping, no_task}
@@ -63,7 +63,7 @@ keeping_alone f before (act.Show table) kept none plain legal names keeping = ke
 keeping_alone f before (act.Insert table rows) kept none plain legal names keeping = absurd names
 keeping_alone f before (act.Update table sets filter) kept none plain legal names keeping = absurd names
 keeping_alone f before (act.Delete table filter) kept none plain legal names keeping = absurd names
-keeping_alone f before (act.Select query) kept none plain legal names keeping = absurd names
+keeping_alone f before (act.Select query) kept none plain legal names keeping = keeping_with f before [] (tables_asked query.entries) (act.Select query) none kept plain legal names keeping
 
 pub act_idle : (old new : Database) (one : Act) → Names (length old.engine.catalog.tables) one → IsIdle old → new.jobs.items ≡ old.jobs.items
     → shown new.engine ≡ record (shown old.engine) { past = (done_alone (fixed old.engine) (past old.engine) one).past } → IsIdle new

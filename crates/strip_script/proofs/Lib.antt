@@ -5,7 +5,7 @@ pub mod BuiltKept
 pub mod BuiltForm
 pub mod BuiltStays
 pub mod BuiltSteps
-pub mod ActNames
+pub mod ActAsked
 pub mod AloneLaws
 pub mod JobLaws
 pub mod KeepingLaws

@@ -24,11 +24,12 @@ use Rattle.strip_model.specs.Legal.{Legal}
 use Rattle.strip_model.specs.Says.{Answer, says, to_finish, to_start}
 use Rattle.strip_model.specs.Says as said
 use Rattle.strip_engine.specs.State.{fixed_of}
+use Rattle.strip_engine.proofs.Asked.{asked_names}
 use Rattle.strip_script.specs.Built.{is_built, is_built_deed, is_late}
 use Rattle.strip_script.specs.Refusals.{line_of_not_built, line_of_not_ready}
 use Rattle.strip_script.specs.Script.{Stage, act_step, built_step, declare_step, deed_step, done_alone, finish_step, fixed_at, opening, parsed_step, refusing, silent, stage_after, start_step, statement_step, step, timely_step, with_said}
 use Rattle.strip_script.specs.Stages.{IsActing, IsSound}
-use Rattle.strip_script.proofs.ActNames.{act_names}
+use Rattle.strip_script.proofs.ActAsked.{act_asked}
 use Rattle.strip_script.proofs.AloneLaws.{alone_ends, alone_legal}
 use Rattle.strip_script.proofs.BuiltStays.{built_stays, declared_stays}
 use Rattle.strip_script.proofs.JobLaws.{finish_legal, finish_none, start_legal, start_none}
@@ -96,7 +97,7 @@ act_sound stage d acts closed sound = by_refusal (refusal stage.catalog (st.Deed
     by_refusal None e =
         let one = act_of stage.catalog.tables d in
         moved_sound stage (done_alone (fixed_at stage) stage.past one).past closed
-        (alone_legal (fixed_at stage) stage.past one sound.none (act_names stage.catalog d acts e) sound.legal)
+        (alone_legal (fixed_at stage) stage.past one sound.none (asked_names stage.catalog.tables one (act_asked stage.catalog d acts e)) sound.legal)
         (alone_ends (fixed_at stage) stage.past one sound.none)
         sound
     by_refusal (Some error) e = sound
@@ -130,6 +131,7 @@ deed_sound : (stage : Stage) (d : Deed) → is_built_deed stage.catalog d ≡ tr
 deed_sound stage deed.Start built closed sound = start_sound stage closed sound
 deed_sound stage (deed.Finish number) built closed sound = finish_sound stage number closed sound
 deed_sound stage (deed.Put table row) built closed sound = act_sound stage (deed.Put table row) tt closed sound
+deed_sound stage (deed.Select query) built closed sound = act_sound stage (deed.Select query) tt closed sound
 deed_sound stage (deed.Show table) built closed sound = act_sound stage (deed.Show table) tt closed sound
 deed_sound stage _ built closed sound = absurd (cc)
 

@@ -18,10 +18,11 @@ use Rattle.strip_catalog.specs.First.{first_made}
 abbrev pub takes_row : List Value → TableDef → Bool
 takes_row row def = is_none def.query && is_none (misfit def.columns row)
 
--- puts of a row that fits a base table, shows, starts and finishes are built
+-- puts of a row that fits a base table, queries, shows, starts and finishes are built
 abbrev pub is_built_deed : Catalog → Deed → Bool
 is_built_deed catalog (deed.Put table row) =
     option_map_or (λ id. takes_row row (def_at catalog.tables id)) (table_number catalog.tables table) false
+is_built_deed catalog (deed.Select query) = true
 is_built_deed catalog (deed.Show table) = true
 is_built_deed catalog deed.Start = true
 is_built_deed catalog (deed.Finish number) = true

@@ -5,7 +5,7 @@ use Rattle.std.specs.Str.{is_utf8, chars}
 use Rattle.std.specs.Char.{encode_utf8}
 use Rattle.strip_value.specs.Pieces.{pieces}
 use Rattle.strip_value.specs.Print.{tuple_text}
-use Rattle.strip_value.specs.Query.{mean}
+use Rattle.strip_value.specs.Query.{mean, mean_now}
 use Rattle.strip_ast.specs.Marks.{keyword_of, symbol_of}
 use Rattle.strip_ast.specs.Tokens.{token_at, tokens_of}
 use Rattle.strip_meaning.specs.Effect.{effect}
@@ -58,10 +58,24 @@ out_of_turn = refl
 
 -- what isn't built yet changes nothing, also where the catalog would refuse it
 pub not_built :
-    answer 10 (codes "function f redo d by b; maintain t by key; at 5; ready; at 5; commit; put t (1); select a from t; as 1 show t;")
+    answer 10 (codes "function f redo d by b; maintain t by key; at 5; ready; at 5; commit; put t (1); run; as 1 show t;")
     ≡ codes "refused NotBuilt\nrefused NotBuilt\nrefused NotReady\nok\nrefused NotBuilt\nrefused NotBuilt\nrefused NotBuilt\nrefused NotBuilt\nrefused NotBuilt\n"
 unfolding pieces tuple_text keyword_of symbol_of token_at tokens_of names column columns table stream grammar_step function dotted col atom factor product sum comparing compare test conj expression whole item totalled total source entry filter rest query plain derive enclosed_names event bound unique manner trigger effect_of_rule rule maintain a_value row set insert put update delete act begin show deed called statement take_inside reading parsed refusal with_statement effect line_of_reply fault_text error_text step digits is_utf8 chars encode_utf8 answer
 not_built = refl
+
+-- a query is answered by the rows that it means, in their order, a repeated row as often as it occurs
+pub a_query :
+    answer 10 (codes "table t (id int, g int, key id); ready; put t (1, 8); put t (2, 7); put t (3, 7); select g from t; select x from t;")
+    ≡ codes "ok\nok\ncount 1\ncount 1\ncount 1\nrows 3\n(7)\n(7)\n(8)\nrefused Unknown x\n"
+unfolding pieces tuple_text keyword_of symbol_of token_at tokens_of names column columns table stream grammar_step function dotted col atom factor product sum comparing compare test conj expression whole item totalled total source entry filter rest query plain derive enclosed_names event bound unique manner trigger effect_of_rule rule maintain a_value row set insert put update delete act begin show deed called statement take_inside reading parsed refusal with_statement mean mean_now effect line_of_reply fault_text error_text step digits is_utf8 chars encode_utf8 answer
+a_query = refl
+
+-- groups have a row each, by rising key
+pub a_grouped_query :
+    answer 10 (codes "table t (id int, g int, v int, key id); ready; put t (1, 7, 5); put t (2, 7, 6); put t (3, 8, 1); select g, sum(v) as s, count(*) as n from t group by g;")
+    ≡ codes "ok\nok\ncount 1\ncount 1\ncount 1\nrows 2\n(7, 11, 2)\n(8, 1, 1)\n"
+unfolding pieces tuple_text keyword_of symbol_of token_at tokens_of names column columns table stream grammar_step function dotted col atom factor product sum comparing compare test conj expression whole item totalled total source entry filter rest query plain derive enclosed_names event bound unique manner trigger effect_of_rule rule maintain a_value row set insert put update delete act begin show deed called statement take_inside reading parsed refusal with_statement mean mean_now effect line_of_reply fault_text error_text step digits is_utf8 chars encode_utf8 answer
+a_grouped_query = refl
 
 -- rows stand in the order of the key's columns, which may be another than that of the columns
 pub two_keys :

@@ -22,6 +22,7 @@ use Rattle.strip_setup.specs.Catalog.{Catalog, nothing}
 use Rattle.strip_setup.specs.Resolve.{act_of}
 use Rattle.strip_catalog.specs.Refusals.{refusal}
 use Rattle.strip_meaning.specs.Contents.{no_function}
+use Rattle.strip_meaning.specs.Effect.{tables_asked}
 use Rattle.strip_model.specs.declared.entries.Entry.{Entry}
 use Rattle.strip_model.specs.History.{begins}
 use Rattle.strip_model.specs.Derived.{Fixed}
@@ -53,6 +54,7 @@ is_refusal (Refused cause) = true
 -- the begin of a transaction that does the act; one that is not built names no table
 abbrev pub begin_for : Act → Call
 begin_for (act.Put table row) = to_begin 0 (table ∷ []) []
+begin_for (act.Select query) = to_begin 0 [] (tables_asked query.entries)
 begin_for (act.Show table) = to_begin 0 [] (table ∷ [])
 begin_for _ = to_begin 0 [] []
 

@@ -88,8 +88,9 @@ pub record IsReached (most : ℕ) (catalog : Catalog) (stage : CodeStage) : Type
 abbrev pub maintain_by_sums : List ℕ → Statement
 maintain_by_sums name = st.Maintain name by.Sum (record { unique = None; after = 0 })
 
--- the deed is a put or a show
+-- the deed is a put, a query or a show
 abbrev pub IsActing : Deed → Type 0
 IsActing (deed.Put table row) = Unit {0}
+IsActing (deed.Select query) = Unit {0}
 IsActing (deed.Show table) = Unit {0}
 IsActing _ = ⊥

@@ -30,7 +30,7 @@ fn is_built_deed(catalog: &Catalog, deed: &Deed) -> bool
 {
     match deed {
         Deed::Put { table, row } => takes_row(catalog, table, row),
-        Deed::Show { .. } | Deed::Start | Deed::Finish { .. } => true,
+        Deed::Select { .. } | Deed::Show { .. } | Deed::Start | Deed::Finish { .. } => true,
         _ => false,
     }
 }

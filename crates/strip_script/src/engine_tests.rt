@@ -2,9 +2,9 @@
 ghost use Rattle.std.specs.Prelude.{◌≡◌, ◌∷◌, ◌<◌, ◌≤◌, ◌^◌, [], length, IfOk, OnOk};
 ghost use Rattle.strip_script.specs.EngineTests.{Gives, IsInOrder};
 ghost use Rattle.strip_script.specs.Stages.{IsSteady};
+ghost use Rattle.strip_engine.specs.Asked.{IsAsked};
 ghost use Rattle.strip_engine.specs.State.{past};
 ghost use Rattle.strip_model.specs.History.{live};
-ghost use Rattle.strip_model.specs.Legal.{Names};
 
 use crate::script::{Script, Stage, opening};
 use std::alloc::{AllocError, Global};
@@ -129,10 +129,11 @@ fn table(count: u32, number: u32) -> Result<Id, Fail>
     Ok(Id(number))
 }
 
-/// The act of a step, on one of so many tables.
-fn act(alloc: Global, count: u32, step: Step) -> Result<Act, Fail>
-    ensures { IfOk result (Names count) }
+/// The act of a step, on a table of the engine.
+fn act(alloc: Global, engine: &Engine, step: Step) -> Result<Act, Fail>
+    ensures { IfOk result (IsAsked engine.now.catalog.tables) }
 {
+    let count = engine.catalog().tables();
     match step {
         Put(number, cells) => {
             let table = table(count, number)?;
@@ -154,7 +155,7 @@ fn does(
     act: &Act,
     said: &mut Vec<u8>,
 ) -> Result<(), Fail>
-    requires { Names (length engine.old.catalog.tables) act.now }
+    requires { IsAsked engine.old.catalog.tables act.now }
     ensures { OnOk result (live (past engine.new) ≡ live (past engine.old)) }
 {
     let reply = engine.act(session, act)?;
@@ -173,7 +174,7 @@ fn takes(
 ) -> Result<(), Fail>
     ensures { OnOk result (live (past engine.new) ≡ live (past engine.old)) }
 {
-    let act = act(alloc, engine.catalog().tables(), step)?;
+    let act = act(alloc, engine, step)?;
     does(alloc, engine, session, &act, said)
 }
 
@@ -375,7 +376,7 @@ fn the_history_has_every_entry(rt: HostRuntime) -> Result<(), Fail> {
 
 /// What an act of a session answers.
 fn act_answer(alloc: Global, engine: &mut Engine, session: u64, act: &Act) -> Result<String, Fail>
-    requires { Names (length engine.old.catalog.tables) act.now }
+    requires { IsAsked engine.old.catalog.tables act.now }
 {
     let done = engine.act(session, act);
     let text = format!(in alloc; "{done:?}")?;
@@ -384,7 +385,7 @@ fn act_answer(alloc: Global, engine: &mut Engine, session: u64, act: &Act) -> Re
 
 /// What a show of a session answers.
 fn show_answer(alloc: Global, engine: &mut Engine, session: u64) -> Result<String, Fail> {
-    let act = act(alloc, engine.catalog().tables(), Show(0))?;
+    let act = act(alloc, engine, Show(0))?;
     act_answer(alloc, engine, session, &act)
 }
 

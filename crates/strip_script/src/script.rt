@@ -1,5 +1,5 @@
 //! What the pieces of a script are answered.
-ghost use Rattle.std.specs.Prelude.{◌≡◌, ◌≤◌, ◌^◌, ◌&&◌, true, not, length, Some, None, option_map, IfOk, IfErr};
+ghost use Rattle.std.specs.Prelude.{◌≡◌, ◌≤◌, ◌^◌, ◌&&◌, true, not, Some, None, option_map, IfOk, IfErr};
 ghost use Rattle.std.specs.List.{list_all};
 ghost use Rattle.strip_script.specs.Built.{is_built as statement_is_built, is_built_deed, is_late as statement_is_late};
 ghost use Rattle.strip_script.specs.Refusals.{line_of_error};
@@ -9,8 +9,8 @@ ghost use Rattle.strip_script.specs.declared.script.Stage.TheVariants as code;
 ghost use Rattle.strip_ast.specs.declared.statements.Statement.TheVariants as st;
 ghost use Rattle.strip_catalog.specs.Accepted.{HasText};
 ghost use Rattle.strip_catalog.specs.Refusals.{refusal};
+ghost use Rattle.strip_engine.specs.Asked.{IsAsked};
 ghost use Rattle.strip_engine.specs.State.{fixed, past};
-ghost use Rattle.strip_model.specs.Legal.{Names};
 ghost use Rattle.strip_setup.specs.Resolve.{act_of};
 ghost use Rattle.strip_value.specs.Pieces.{is_blank as blank_byte};
 
@@ -181,11 +181,11 @@ fn resolved(
 /// An act in a transaction of its own.
 fn do_act(alloc: Global, database: Database, act: &Act) -> Result<Answer, AllocError>
     requires idle { IsIdle database }
-    requires names { Names (length database.engine.catalog.tables) act.now }
+    requires asked { IsAsked database.engine.catalog.tables act.now }
     ensures { IfOk result (IsStep (acted (stage_of (code.Running database)) (done_alone (fixed database.engine) (past database.engine) act.now))) }
 {
     let mut database = database;
-    let outcome = act_alone(&mut database.engine, act)?;
+    let outcome = act_alone(alloc, &mut database.engine, act)?;
     let (text, refused) = outcome_text(alloc, database.engine.catalog().defs(), &outcome)?;
     Ok(Answer {
         text,

@@ -1,6 +1,7 @@
 use Rattle.std.proofs.Common.{refl, ap, ◌∙◌}
 use Rattle.strip_setup.specs.Catalog.{Catalog}
 use Rattle.strip_engine.specs.State.{fixed, past}
+use Rattle.strip_engine.proofs.Asked.{asked_names}
 use Rattle.strip_script.specs.declared.database.Database.{Database}
 use Rattle.strip_script.specs.Script.{acted, done_alone, outcome_text, is_refused_outcome}
 use Rattle.strip_script.proofs.AnswerLaws.{running_step}
@@ -20,4 +21,4 @@ returns c =
     running_step database (acted (shown old.engine) ended) _
     (c.in_ok-text.ensures.0 ∙ ap (λ defs. outcome_text defs outcome) c.defs.ensures.all ∙ ap (λ (k : Catalog). outcome_text k.tables outcome) (c.catalog.ensures ∙ acts.catalog) ∙ ap (outcome_text old.engine.catalog.tables) acts.alone.0)
     (c.in_ok-text.ensures.1 ∙ ap is_refused_outcome acts.alone.0) stands
-    (act_idle old database one c.requires.names c.requires.idle refl stands) c.at.ensures
+    (act_idle old database one (asked_names old.engine.catalog.tables one c.requires.asked) c.requires.idle refl stands) c.at.ensures
